@@ -18,7 +18,8 @@ _metroheap() {
         steps) options='--from --to --json --chrome --rules --help' ;;
         cycles) options='--rules --help' ;;
         show) options='--from --to --rules --help' ;;
-        live | race) options='--workers --help' ;;
+        live) options='--workers --world --help' ;;
+        race) options='--workers --help' ;;
         check) options='--pages --quantum --trigger --every --rules --sessions --no-full --log --help' ;;
         migrate) options='--pages --quantum --trigger --every --help' ;;
         audit) options='--help' ;;

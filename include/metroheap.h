@@ -83,7 +83,7 @@ enum metroheap_status {
     METROHEAP_DONE = 0,       /* it was done */
     METROHEAP_BLANK = 1,      /* the line is empty or a comment */
     METROHEAP_WRONG = 2,      /* the line or the numbers are no event */
-    METROHEAP_FULL = 3,       /* 1,000,000 events were done, the most */
+    METROHEAP_FULL = 3,       /* 2^42 events were done, the most of all */
     METROHEAP_NO_MEMORY = 4,  /* memory was refused */
     METROHEAP_CLOSED = 5,     /* the handle is closed */
     METROHEAP_BAD_CONFIG = 6, /* the numbers are no configuration */
@@ -140,7 +140,7 @@ int32_t metroheap_open(metroheap *heap, uint32_t pages, uint32_t quantum,
 ** is to answer, but for a new object for which a heap has no room. So replies
 ** can be compared, or judged by metroheap_judge, without a configuration.
 **
-** It does the commands of sessions, as text or as numbers, 1,000,000 at most. A
+** It does the commands of sessions, as text or as numbers, 2^42 at most. A
 ** control is METROHEAP_IS_WORLD, and so are the calls that ask for a collector
 ** or a trace; it has no deeds. It keeps every object, so memory may be refused
 ** for a new one.
@@ -189,7 +189,8 @@ static inline void metroheap_close(metroheap *heap) {
 ** METROHEAP_CLOSED, METROHEAP_IS_WORLD   nothing was done; `*written` is 0
 **
 ** Memory may be refused for a command, for a quantum that is asked for, and
-** for a dump; in a world only for a new object. A later call may succeed.
+** for a dump; in a world only for a new object. A later call may succeed. After
+** metroheap_reserve it is refused for none of these but a dump.
 */
 int32_t metroheap_line_nonnull(metroheap *heap, const char *line,
                                size_t line_length, char *out,
@@ -540,14 +541,53 @@ int32_t metroheap_deed_item(metroheap *heap, size_t index,
 /* What is read without an event ------------------------------------------ */
 
 /*
-** Put in `*reply` what `* stat` and `* left` would answer now. They are no
-** events, so they don't count as any, and the last reply stays.
+** Put in `*reply` what `* stat`, `* left` and `* report WINDOW` would answer
+** now. They are no events, so they don't count as any, and the last reply
+** stays.
 **
 ** METROHEAP_DONE
 ** METROHEAP_CLOSED, METROHEAP_IS_WORLD   `*reply` is as it was
 */
 int32_t metroheap_see_stat(metroheap *heap, metroheap_reply *reply);
 int32_t metroheap_see_left(metroheap *heap, metroheap_reply *reply);
+int32_t metroheap_see_report(metroheap *heap, uint64_t window,
+                             metroheap_reply *reply);
+
+/* Memory ----------------------------------------------------------------- */
+
+/*
+** All that grows with the events of a machine is its trace, of which reports
+** are made: 32 bytes an event at most, and as it grows up to twice as much is
+** asked for. Reports of up to 512 windows take 32 KB more. A machine that is to
+** go on for long, or that may not ask for memory while it runs, has room made
+** for so many events at its start, and forgets its trace before so many more
+** were done.
+**
+** Makes room for the next `events` events. Then memory is refused for none of
+** them, unless it is a dump; and so for none of as many after each time that
+** the trace is forgotten. This is proved. Texts of replies, and deeds that are
+** kept, ask for memory of their own: without it the event is done all the same,
+** and there is no text, or there are no deeds.
+**
+** METROHEAP_DONE
+** METROHEAP_NO_MEMORY, METROHEAP_CLOSED,
+** METROHEAP_IS_WORLD   the machine is as it was
+*/
+int32_t metroheap_reserve(metroheap *heap, size_t events);
+
+/*
+** Forgets the trace. Reports count from here then: their units, their quanta
+** and their windows; so does `at` of metroheap_last_units from the next event
+** on. Each report keeps what the configuration promises, as those of the whole
+** trace do: a floor under the mutator's share of each window, and no quantum
+** longer than is configured. All else goes on as if nothing had been forgotten:
+** each reply that isn't a report's, the heap, and how many events were done. No
+** memory is freed; what the trace had is room for events to come.
+**
+** METROHEAP_DONE
+** METROHEAP_CLOSED, METROHEAP_IS_WORLD   nothing was done
+*/
+int32_t metroheap_forget(metroheap *heap);
 
 /* Shorthands, which no library has to be linked for ---------------------- */
 

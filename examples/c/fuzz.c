@@ -1,6 +1,7 @@
 /* Holds a heap against the world, by events as they lie in memory: each reply
 ** of the heap is judged by metroheap_judge on a world. The heap is the machine
-** of the library; put your own in the place of `opens_heap` and `answers`.
+** of the library; put your own in the place of `opens_heap` and `answers`, and
+** let `tends` do nothing.
 **
 **     fuzz [--seed S] [--inputs N] [--events M]   tries N inputs of M events, at random
 **     fuzz FILE ..                                tries what is in files
@@ -8,7 +9,8 @@
 ** The first 24 bytes of an input choose a configuration. Each 24 bytes after
 ** them are a `struct metroheap_event`, whose fields are cut down (`cuts`): so
 ** any bytes make objects, link them and drop them, and run quanta. One input in
-** sixteen has its events as they are, most of which are none.
+** sixteen has its events as they are, most of which are none. Before some events
+** room is made for others, the trace is forgotten, or a report is seen.
 **
 ** For libFuzzer, and for AFL++, which takes the same function in its persistent
 ** mode, build it so; a folder of files with bytes at random is a good beginning:
@@ -39,10 +41,16 @@ static void fails(const char *what, int32_t status) {
 
 /* The heap that is judged ------------------------------------------------ */
 
+/* The quantum of its configuration, and the units since its trace was forgotten. */
+static uint32_t quantum;
+static uint64_t traced;
+
 /* Opens it anew. Whether memory was there. */
 static int opens_heap(const metroheap_event *head) {
-    uint32_t pages = 1 + head->first % 48, quantum = 209 + head->second % 120;
+    uint32_t pages = 1 + head->first % 48;
     uint32_t trigger = (uint32_t)(head->third % (pages + 1)), every = (uint32_t)(head->third >> 32) % 60;
+    quantum = 209 + head->second % 120;
+    traced = 0;
     int32_t status = metroheap_open(&heap, pages, quantum, trigger, every, 1 + head->session % 2);
     if (status == METROHEAP_DONE) {
         /* It does the same if it tells its deeds. */
@@ -53,7 +61,50 @@ static int opens_heap(const metroheap_event *head) {
 
 /* Asks it. If the event isn't done, the status says why. */
 static int32_t answers(const metroheap_event *event, metroheap_reply *reply) {
-    return metroheap_step(&heap, event, reply);
+    metroheap_units units;
+    int32_t status = metroheap_step(&heap, event, reply);
+    if (status == METROHEAP_DONE) {
+        if (metroheap_last_units(&heap, &units) != METROHEAP_DONE || units.at != traced) {
+            fails("units are elsewhere in the trace", status);
+        }
+        traced += units.mutator + units.collector;
+    }
+    return status;
+}
+
+/* Sees a report, which has all units of the trace, and keeps what the configuration promises. */
+static void sees_report(uint64_t window) {
+    metroheap_reply reply;
+    const uint64_t *n = reply.numbers;
+    int32_t status = metroheap_see_report(&heap, window, &reply);
+    if (status != METROHEAP_DONE || reply.kind != METROHEAP_REPLY_REPORT) {
+        fails("no report is seen", status);
+    }
+    if (n[METROHEAP_REPORT_MUTATOR] + n[METROHEAP_REPORT_COLLECTOR] != traced ||
+        n[METROHEAP_REPORT_HAS_LEAST] != (window <= traced)) {
+        fails("a report has other units", status);
+    }
+    if (n[METROHEAP_REPORT_GREATEST] > quantum ||
+        (n[METROHEAP_REPORT_HAS_LEAST] && n[METROHEAP_REPORT_LEAST] < n[METROHEAP_REPORT_FLOOR])) {
+        fails("a report doesn't keep its promise", status);
+    }
+}
+
+/* Does what is no event, but mostly nothing. A byte of the kind chooses, of which `cuts` makes no use. */
+static void tends(const metroheap_event *event) {
+    uint32_t choice = event->kind >> 16 & 255;
+    int32_t status = METROHEAP_DONE;
+    if (choice >= 254) {
+        status = metroheap_reserve(&heap, (size_t)(event->third % 2000));
+    } else if (choice >= 252) {
+        status = metroheap_forget(&heap);
+        traced = 0;
+    } else if (choice >= 248) {
+        sees_report(event->third % 64 ? event->third % 3000 : event->third);
+    }
+    if (status != METROHEAP_DONE && status != METROHEAP_NO_MEMORY) {
+        fails("the heap isn't tended", status);
+    }
 }
 
 /* Judging ---------------------------------------------------------------- */
@@ -69,23 +120,18 @@ static void differs(const metroheap_event *event, const metroheap_reply *given, 
     abort();
 }
 
-/* Whether an input ends here, though nothing is wrong. */
-static int is_end(int32_t status) {
-    return status == METROHEAP_NO_MEMORY || status == METROHEAP_FULL;
-}
-
-/* Does an event on both. Whether the input goes on. */
+/* Does an event on both. Whether the input goes on: it ends where memory is refused. */
 static int judges(const metroheap_event *event) {
     metroheap_reply given = {0, {0}}, right;
     int32_t asked = answers(event, &given);
-    if (is_end(asked)) {
+    if (asked == METROHEAP_NO_MEMORY) {
         return 0;
     }
     if (asked != METROHEAP_DONE && asked != METROHEAP_WRONG) {
         fails("the heap doesn't answer", asked);
     }
     int32_t status = metroheap_judge(&world, event, &given, &right);
-    if (is_end(status)) {
+    if (status == METROHEAP_NO_MEMORY) {
         return 0;
     }
     if (status == METROHEAP_DIFFERS) {
@@ -175,6 +221,7 @@ int LLVMFuzzerTestOneInput(const uint8_t *data, size_t size) {
     for (size_t at = sizeof head; goes_on && size - at >= sizeof event; at += sizeof event) {
         event_number = at / sizeof event;
         memcpy(&event, data + at, sizeof event);
+        tends(&event);
         if (head.kind % 16 > 0) {
             cuts(&event);
         }

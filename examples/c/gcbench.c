@@ -4,7 +4,7 @@
 ** slots of a session.
 **
 **     gcbench [--depth D] [PAGES QUANTUM TRIGGER EVERY]   runs it, and prints the report
-**     gcbench --script [--depth D] [PAGES ..]             prints it as a script, with that report at its end
+**     gcbench --script [--depth D] [PAGES ..]             prints it as a script, with a report at its end
 **     gcbench --pauses [--depth D] [PAGES ..]             runs it, and prints a log of its pauses
 **
 ** D is the depth of the tree that stretches the heap, 8 to 15. The original's
@@ -12,13 +12,18 @@
 ** tree has depth D - 2, the array 500,000 numbers, halved for each level below
 ** 18, and the other trees the depths 4, 6, .. up to D - 2. Of each depth there
 ** are as many, each way, as have twice the nodes of the stretching tree. If D
-** isn't given it is 13, the greatest with fewer than 1,000,000 events.
+** isn't given it is 15.
 **
 ** A node has two references and two numbers, which are 8 words with its header.
 ** So a page of 256 words has 32, and the stretching tree takes 2^(D - 4) pages.
 ** If no heap is given it has twice as many: 1,024 for a depth of 13, and 4,096,
 ** the most, for 15. What stays takes a fifth of it. Then a cycle takes so long
 ** that its quanta have two units of three.
+**
+** Room is made for 100,000 events at the start, and the trace is forgotten each
+** time that so many were done. What is printed is the sum of their reports: all
+** units and quanta, the greatest quantum, and the least share of a window that
+** is within one of them.
 **
 ** Exits 1 if the heap is full, and 2 if anything else stops it.
 */
@@ -35,9 +40,17 @@ enum { LEFT = 0, RIGHT = 1, REFERENCES = 2, NUMBERS = 2 };
 /* Slots of the board, for what lives long. */
 enum { TREE = 0, ARRAY = 1 };
 
+/* For so many events room is made. */
+enum { ROOM = 100000 };
+
 static metroheap heap = METROHEAP_INIT;
 static uint32_t pages, quantum = 600, trigger, every = 300;
-static int stretch_depth = 13, writes_script, writes_pauses;
+static int stretch_depth = 15, writes_script, writes_pauses;
+static uint64_t window;
+
+/* How many events were done since the trace was forgotten, and the sum of the reports before. */
+static uint32_t done;
+static uint64_t sum[9];
 
 static void fails(const char *what) {
     fprintf(stderr, "gcbench: %s\n", what);
@@ -60,6 +73,29 @@ static void prints_pause(void) {
     }
 }
 
+/* Adds the report of the trace to the sum, and forgets the trace. */
+static void forgets(void) {
+    metroheap_reply reply;
+    const uint64_t *n = reply.numbers;
+    checks(metroheap_see_report(&heap, window, &reply));
+    for (int i = METROHEAP_REPORT_MUTATOR; i <= METROHEAP_REPORT_QUANTA; i++) {
+        sum[i] += n[i];
+    }
+    if (n[METROHEAP_REPORT_GREATEST] > sum[METROHEAP_REPORT_GREATEST]) {
+        sum[METROHEAP_REPORT_GREATEST] = n[METROHEAP_REPORT_GREATEST];
+    }
+    sum[METROHEAP_REPORT_WINDOW] = window;
+    if (n[METROHEAP_REPORT_HAS_LEAST] &&
+        (!sum[METROHEAP_REPORT_HAS_LEAST] || n[METROHEAP_REPORT_LEAST] < sum[METROHEAP_REPORT_LEAST])) {
+        sum[METROHEAP_REPORT_HAS_LEAST] = 1;
+        sum[METROHEAP_REPORT_LEAST] = n[METROHEAP_REPORT_LEAST];
+    }
+    sum[METROHEAP_REPORT_HAS_FLOOR] = n[METROHEAP_REPORT_HAS_FLOOR];
+    sum[METROHEAP_REPORT_FLOOR] = n[METROHEAP_REPORT_FLOOR];
+    checks(metroheap_forget(&heap));
+    done = 0;
+}
+
 /* Does a command of session 0, or prints it. */
 static metroheap_reply command(uint32_t kind, uint32_t first, uint32_t second, uint64_t third) {
     metroheap_event event = metroheap_command(kind, 0, first, second, third);
@@ -76,6 +112,9 @@ static metroheap_reply command(uint32_t kind, uint32_t first, uint32_t second, u
     }
     if (writes_pauses) {
         prints_pause();
+    }
+    if (++done == ROOM) {
+        forgets();
     }
     return reply;
 }
@@ -196,15 +235,12 @@ static void does_all(void) {
     looks_at_long_lived();
 }
 
-static void prints_report(uint64_t window) {
-    metroheap_reply reply;
-    char text[256];
-    checks(metroheap_report(&heap, window, &reply));
-    checks(metroheap_again(&heap, text, sizeof text, NULL));
-    puts(text);
-    printf("least utilisation %.2f%%, promised %.2f%%\n",
-           100.0 * (double)reply.numbers[METROHEAP_REPORT_LEAST] / (double)window,
-           100.0 * (double)reply.numbers[METROHEAP_REPORT_FLOOR] / (double)window);
+static void prints_report(void) {
+    forgets();
+    prints_report_numbers(stdout, sum);
+    printf("\nleast utilisation %.2f%%, promised %.2f%%\n",
+           100.0 * (double)sum[METROHEAP_REPORT_LEAST] / (double)window,
+           100.0 * (double)sum[METROHEAP_REPORT_FLOOR] / (double)window);
 }
 
 static const char USAGE[] = "[--script | --pauses] [--depth D] [PAGES QUANTUM TRIGGER EVERY]";
@@ -248,7 +284,7 @@ int main(int count, char **words) {
         fails(USAGE);
     }
     /* Ten rounds of the scheduler. */
-    uint64_t window = 10 * ((uint64_t)every + quantum);
+    window = 10 * ((uint64_t)every + quantum);
     if (writes_script) {
         printf("config %" PRIu32 " %" PRIu32 " %" PRIu32 " %" PRIu32 "\n", pages, quantum, trigger, every);
         does_all();
@@ -256,9 +292,10 @@ int main(int count, char **words) {
         return 0;
     }
     checks(metroheap_open(&heap, pages, quantum, trigger, every, 2));
+    checks(metroheap_reserve(&heap, ROOM));
     does_all();
     if (!writes_pauses) {
-        prints_report(window);
+        prints_report();
     }
     metroheap_close(&heap);
     return 0;

@@ -2,8 +2,9 @@
 **
 **     script < SCRIPT
 **
-** A bad line is named after the replies to the lines before it. Why it is no
-** event goes to standard error. Exits 1 then, and 2 if anything else stops it.
+** `run` stops after 1,000,000 events, and this doesn't. A bad line is named after
+** the replies to the lines before it. Why it is no event goes to standard error.
+** Exits 1 then, and 2 if anything else stops it.
 */
 #include "metroheap.h"
 

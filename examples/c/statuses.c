@@ -1,7 +1,8 @@
-/* Each call with each of its statuses, and each request for memory refused in
-** turn: a call that is refused leaves the machine as it was, and answers the
-** same when it is tried again. Link it with -Wl,--wrap=malloc,--wrap=realloc.
-** Prints nothing but its last line; at a fault it names the line, and exits 1.
+/* Each call with each of its statuses but METROHEAP_FULL, for which no time is
+** long enough, and each request for memory refused in turn: a call that is
+** refused leaves the machine as it was, and answers the same when it is tried
+** again. Link it with -Wl,--wrap=malloc,--wrap=realloc. Prints nothing but its
+** last line; at a fault it names the line, and exits 1.
 */
 #include "metroheap.h"
 
@@ -21,10 +22,16 @@ void *__wrap_realloc(void *block, size_t size);
 static long granted = -1;
 static int refuses_rest;
 
-/* How many requests were refused. */
-static long refusals;
+/* How many requests there were, and how many were refused. */
+static long requests, refusals;
 
-static int is_refused(void) {
+static int is_refused(size_t size) {
+    requests++;
+    /* Nobody has so much, and a sanitizer ends a program that asks for it. */
+    if (size > SIZE_MAX / 4) {
+        refusals++;
+        return 1;
+    }
     if (granted != 0) {
         granted -= granted > 0;
         return 0;
@@ -35,11 +42,11 @@ static int is_refused(void) {
 }
 
 void *__wrap_malloc(size_t size) {
-    return is_refused() ? NULL : __real_malloc(size);
+    return is_refused(size) ? NULL : __real_malloc(size);
 }
 
 void *__wrap_realloc(void *block, size_t size) {
-    return is_refused() ? NULL : __real_realloc(block, size);
+    return is_refused(size) ? NULL : __real_realloc(block, size);
 }
 
 /* What is tried ---------------------------------------------------------- */
@@ -107,8 +114,8 @@ static metroheap_reply refused(uint64_t refusal) {
 
 /* What can be seen of a machine without an event. */
 struct sight {
-    int32_t statuses[4];
-    metroheap_reply last, stat, left;
+    int32_t statuses[5];
+    metroheap_reply last, stat, left, report;
     metroheap_units units;
 };
 
@@ -118,7 +125,8 @@ static struct sight sees(metroheap *which) {
     sight.statuses[0] = metroheap_last_reply(which, &sight.last);
     sight.statuses[1] = metroheap_see_stat(which, &sight.stat);
     sight.statuses[2] = metroheap_see_left(which, &sight.left);
-    sight.statuses[3] = metroheap_last_units(which, &sight.units);
+    sight.statuses[3] = metroheap_see_report(which, 77, &sight.report);
+    sight.statuses[4] = metroheap_last_units(which, &sight.units);
     return sight;
 }
 
@@ -126,7 +134,7 @@ static int is_as_before(const struct sight *before, metroheap *which) {
     struct sight now = sees(which);
     return memcmp(before->statuses, now.statuses, sizeof now.statuses) == 0 && is_same(&before->last, &now.last) &&
            is_same(&before->stat, &now.stat) && is_same(&before->left, &now.left) &&
-           memcmp(&before->units, &now.units, sizeof now.units) == 0;
+           is_same(&before->report, &now.report) && memcmp(&before->units, &now.units, sizeof now.units) == 0;
 }
 
 /* Statuses --------------------------------------------------------------- */
@@ -161,7 +169,10 @@ static void closed_handles(void) {
     CHECK(metroheap_dump(&heap, &reply) == METROHEAP_CLOSED && metroheap_report(&heap, 1, &reply) == METROHEAP_CLOSED);
     CHECK(metroheap_see_stat(&heap, &reply) == METROHEAP_CLOSED);
     CHECK(metroheap_see_left(&heap, &reply) == METROHEAP_CLOSED);
+    CHECK(metroheap_see_report(&heap, 1, &reply) == METROHEAP_CLOSED);
     CHECK(reply.kind == 77 && reply.numbers[0] == 7);
+    CHECK(metroheap_reserve(&heap, 1) == METROHEAP_CLOSED && metroheap_reserve(&heap, 0) == METROHEAP_CLOSED);
+    CHECK(metroheap_forget(&heap) == METROHEAP_CLOSED);
     CHECK(metroheap_dump_item(&heap, 0, &item) == METROHEAP_CLOSED);
     CHECK(metroheap_deed_item(&heap, 0, &deed) == METROHEAP_CLOSED);
     CHECK(metroheap_last_units(&heap, &units) == METROHEAP_CLOSED && metroheap_tell(&heap, 1) == METROHEAP_CLOSED);
@@ -302,12 +313,22 @@ static void numbers(void) {
     CHECK(metroheap_dump_item(&heap, 0, &item) == METROHEAP_NO_ITEM);
 }
 
+/* A report that is seen leaves all as it was, and is what the control answers next. */
+static void sees_report(uint64_t window) {
+    struct sight before = sees(&heap);
+    metroheap_reply seen;
+    CHECK(metroheap_see_report(&heap, window, &seen) == METROHEAP_DONE && is_as_before(&before, &heap));
+    CHECK(seen.kind == METROHEAP_REPLY_REPORT && seen.numbers[METROHEAP_REPORT_WINDOW] == window);
+    CHECK(metroheap_report(&heap, window, &reply) == METROHEAP_DONE && is_same(&reply, &seen));
+}
+
 /* What is seen without an event is what the control answers, and the last reply stays. Units add up to the trace. */
 static void sights(void) {
     uint64_t at = 0;
     CHECK(metroheap_open(&heap, 4, 209, 4, 7, 2) == METROHEAP_DONE);
     CHECK(metroheap_see_stat(&heap, &reply) == METROHEAP_DONE && reply.kind == METROHEAP_REPLY_STAT);
     CHECK(reply.numbers[METROHEAP_STAT_FREE] == 4);
+    CHECK(metroheap_see_report(&heap, 1, &reply) == METROHEAP_DONE && reply.kind == METROHEAP_REPLY_REPORT);
     CHECK(metroheap_last_reply(&heap, &reply) == METROHEAP_NO_REPLY);
     for (uint32_t i = 0; i < 40; i++) {
         struct sight sight;
@@ -320,6 +341,10 @@ static void sights(void) {
         at += sight.units.mutator + sight.units.collector;
         CHECK(step_control(&heap, METROHEAP_EVENT_STAT) == METROHEAP_DONE && is_same(&reply, &sight.stat));
         CHECK(step_control(&heap, METROHEAP_EVENT_LEFT) == METROHEAP_DONE && is_same(&reply, &sight.left));
+        sees_report(0);
+        sees_report(i + 1);
+        sees_report(at + 1);
+        sees_report(UINT64_MAX);
         CHECK(metroheap_report(&heap, 100, &reply) == METROHEAP_DONE);
         CHECK(reply.numbers[METROHEAP_REPORT_MUTATOR] + reply.numbers[METROHEAP_REPORT_COLLECTOR] == at);
         CHECK(metroheap_last_units(&heap, &units) == METROHEAP_DONE && units.at == at);
@@ -439,7 +464,9 @@ static void worlds(void) {
     }
     CHECK(metroheap_see_stat(&heap, &reply) == METROHEAP_IS_WORLD);
     CHECK(metroheap_see_left(&heap, &reply) == METROHEAP_IS_WORLD);
-    CHECK(reply.kind == 77);
+    CHECK(metroheap_see_report(&heap, 1, &reply) == METROHEAP_IS_WORLD);
+    CHECK(reply.kind == 77 && reply.numbers[0] == 7);
+    CHECK(metroheap_reserve(&heap, 1) == METROHEAP_IS_WORLD && metroheap_forget(&heap) == METROHEAP_IS_WORLD);
     CHECK(metroheap_last_units(&heap, &units) == METROHEAP_IS_WORLD && metroheap_tell(&heap, 1) == METROHEAP_IS_WORLD);
     CHECK(metroheap_dump_item(&heap, 0, &item) == METROHEAP_NO_ITEM);
     CHECK(metroheap_deed_item(&heap, 0, &deed) == METROHEAP_NO_DEEDS);
@@ -450,33 +477,7 @@ static void worlds(void) {
     CHECK(metroheap_open(&heap, 4, 209, 0, 0, 2) == METROHEAP_DONE && answers("* left", "left 0"));
 }
 
-/* Long runs -------------------------------------------------------------- */
-
-/* After 1,000,000 events each further one is METROHEAP_FULL, and all stays. */
-static void full_histories(void) {
-    metroheap_event stat = metroheap_control(METROHEAP_EVENT_STAT, 0);
-    metroheap_event same = metroheap_command(METROHEAP_EVENT_SAME, 0, 0, 0, 0);
-    struct sight before;
-    long done = 0;
-    CHECK(metroheap_open(&heap, 1, 209, 0, 0, 2) == METROHEAP_DONE);
-    while (step(&heap, stat) == METROHEAP_DONE) {
-        done++;
-    }
-    before = sees(&heap);
-    CHECK(done == 1000000 && step(&heap, stat) == METROHEAP_FULL && judge(stat, before.last) == METROHEAP_FULL);
-    CHECK(line("* stat", sizeof out) == METROHEAP_FULL && written == 0 && ask("") == METROHEAP_BLANK);
-    CHECK(ask("a") == METROHEAP_WRONG);
-    CHECK(is_as_before(&before, &heap) && metroheap_again(&heap, out, sizeof out, NULL) == METROHEAP_DONE);
-    CHECK(strcmp(out, "free 1 live 0 old 0 phase idle cycle 0") == 0);
-    CHECK(metroheap_open_world(&heap, 2) == METROHEAP_DONE);
-    for (done = 0; step(&heap, same) == METROHEAP_DONE; done++) {
-    }
-    CHECK(done == 1000000 && judge(same, reply_of(METROHEAP_REPLY_YES, 0)) == METROHEAP_FULL);
-    CHECK(ask("a same 0 0") == METROHEAP_FULL);
-    CHECK(metroheap_last_reply(&heap, &reply) == METROHEAP_DONE && reply.kind == METROHEAP_REPLY_YES);
-}
-
-/* Refused memory --------------------------------------------------------- */
+/* Traces ----------------------------------------------------------------- */
 
 /* An event of a program that makes objects, links them and drops them, in three sessions. */
 static metroheap_event nth_event(uint32_t n) {
@@ -495,6 +496,16 @@ static metroheap_event nth_event(uint32_t n) {
     }
 }
 
+/* Any event but a dump. Two of three are those of the program, whose sessions aren't ended. */
+static metroheap_event any_event(uint32_t n) {
+    uint32_t kind = 1 + n / 3 % METROHEAP_EVENT_LEFT, mixed = n * UINT32_C(2654435769) >> 8;
+    uint32_t session = kind == METROHEAP_EVENT_END ? 3 + mixed % 6 : mixed % 9;
+    if (n % 3 > 0 || kind == METROHEAP_EVENT_DUMP) {
+        return nth_event(n);
+    }
+    return metroheap_command(kind, session, mixed / 9 % 17, mixed / 200 % 5, mixed % 2000);
+}
+
 static int is_dump_the_same(metroheap *left, metroheap *right) {
     metroheap_item other;
     CHECK(metroheap_dump(left, &reply) == METROHEAP_DONE && metroheap_dump(right, &reply) == METROHEAP_DONE);
@@ -509,6 +520,130 @@ static int is_dump_the_same(metroheap *left, metroheap *right) {
         }
     }
 }
+
+static int32_t opens(metroheap *which) {
+    return metroheap_open(which, 16, 250, 8, 0, 2);
+}
+
+/* Opens a machine whose scheduler runs quanta. */
+static int32_t opens_scheduled(metroheap *which) {
+    return metroheap_open(which, 16, 250, 8, 30, 2);
+}
+
+/* Forgets the trace. Reports are those of a machine without an event then, and all else is as it was. */
+static void forgets(void) {
+    metroheap fresh = METROHEAP_INIT;
+    struct sight before = sees(&heap);
+    const uint64_t *n = reply.numbers;
+    CHECK(opens_scheduled(&fresh) == METROHEAP_DONE && metroheap_forget(&heap) == METROHEAP_DONE);
+    before.report = sees(&fresh).report;
+    CHECK(is_as_before(&before, &heap));
+    for (uint64_t window = 0; window < 1000; window = 3 * window + 1) {
+        metroheap_reply right;
+        CHECK(metroheap_see_report(&fresh, window, &right) == METROHEAP_DONE);
+        CHECK(metroheap_see_report(&heap, window, &reply) == METROHEAP_DONE && is_same(&reply, &right));
+        CHECK(n[METROHEAP_REPORT_MUTATOR] + n[METROHEAP_REPORT_COLLECTOR] + n[METROHEAP_REPORT_QUANTA] == 0);
+        CHECK(n[METROHEAP_REPORT_HAS_LEAST] == (window == 0));
+    }
+    metroheap_close(&fresh);
+}
+
+/* A machine that forgets its trace now and then goes on as one that doesn't, but for reports. */
+static void forgetting(void) {
+    metroheap other = METROHEAP_INIT;
+    metroheap_units others;
+    uint64_t at = 0, forgotten = 0, window;
+    const uint64_t *numbers = reply.numbers;
+    CHECK(opens_scheduled(&heap) == METROHEAP_DONE && opens_scheduled(&other) == METROHEAP_DONE);
+    CHECK(metroheap_forget(&heap) == METROHEAP_DONE && metroheap_last_reply(&heap, &reply) == METROHEAP_NO_REPLY);
+    for (uint32_t n = 0; n < 4000; n++) {
+        metroheap_reply answer;
+        if (n % 70 == 0) {
+            forgets();
+            forgotten += at;
+            at = 0;
+        }
+        event = any_event(n);
+        CHECK(step(&other, event) == METROHEAP_DONE);
+        answer = reply;
+        CHECK(step(&heap, event) == METROHEAP_DONE && reply.kind == answer.kind);
+        CHECK(reply.kind == METROHEAP_REPLY_REPORT || is_same(&reply, &answer));
+
+        /* Units are the same, but for where they are. */
+        CHECK(metroheap_last_units(&heap, &units) == METROHEAP_DONE && units.at == at);
+        CHECK(metroheap_last_units(&other, &others) == METROHEAP_DONE && others.at == forgotten + at);
+        at += units.mutator + units.collector;
+        units.at = others.at;
+        CHECK(memcmp(&units, &others, sizeof units) == 0);
+
+        /* A report counts from there, and keeps the promise. */
+        window = n % 400;
+        CHECK(metroheap_see_report(&heap, window, &reply) == METROHEAP_DONE);
+        CHECK(numbers[METROHEAP_REPORT_MUTATOR] + numbers[METROHEAP_REPORT_COLLECTOR] == at);
+        CHECK(numbers[METROHEAP_REPORT_HAS_LEAST] == (window <= at) && numbers[METROHEAP_REPORT_HAS_FLOOR] == 1);
+        CHECK(window > at || numbers[METROHEAP_REPORT_LEAST] >= numbers[METROHEAP_REPORT_FLOOR]);
+        CHECK(numbers[METROHEAP_REPORT_GREATEST] <= 250);
+    }
+    CHECK(sees(&heap).stat.numbers[METROHEAP_STAT_CYCLE] > 1 && is_dump_the_same(&heap, &other));
+    metroheap_close(&other);
+
+    /* Names, the items of the last reply and its deeds stay. */
+    CHECK(opens(&heap) == METROHEAP_DONE && metroheap_tell(&heap, 1) == METROHEAP_DONE);
+    CHECK(answers("a new 0 0 7", "ok") && answers("b new 0 0 8", "ok") && metroheap_forget(&heap) == METROHEAP_DONE);
+    CHECK(metroheap_deed_item(&heap, 0, &deed) == METROHEAP_DONE && deed.numbers[5] == 8);
+    CHECK(answers("c shape 0", "refused 2 null") && answers("b shape 0", "shape 0 8"));
+    CHECK(metroheap_dump(&heap, &reply) == METROHEAP_DONE && metroheap_forget(&heap) == METROHEAP_DONE);
+    CHECK(metroheap_dump_item(&heap, 1, &item) == METROHEAP_DONE && item.kind == METROHEAP_ITEM_BLOCK);
+    CHECK(metroheap_forget(&heap) == METROHEAP_DONE && answers("a shape 0", "shape 0 7"));
+}
+
+/* Room for no event is made, and room for more events than there is memory for isn't. */
+static void reserving(void) {
+    static const size_t too_many[] = {SIZE_MAX, SIZE_MAX - 1, SIZE_MAX / 2 + 1, SIZE_MAX / 16, SIZE_MAX / 64};
+    CHECK(opens(&heap) == METROHEAP_DONE && metroheap_reserve(&heap, 0) == METROHEAP_DONE);
+    CHECK(metroheap_last_reply(&heap, &reply) == METROHEAP_NO_REPLY);
+    for (uint32_t n = 0; n < 20; n++) {
+        struct sight before = sees(&heap);
+        for (size_t i = 0; i < sizeof too_many / sizeof too_many[0]; i++) {
+            CHECK(metroheap_reserve(&heap, too_many[i]) == METROHEAP_NO_MEMORY && is_as_before(&before, &heap));
+        }
+        CHECK(metroheap_reserve(&heap, n) == METROHEAP_DONE && is_as_before(&before, &heap));
+        CHECK(step(&heap, nth_event(n)) == METROHEAP_DONE);
+    }
+}
+
+/* Long runs -------------------------------------------------------------- */
+
+/* A machine goes on past 1,000,000 events in the memory that 100,000 take, and a world in none. */
+static void long_histories(void) {
+    const uint32_t most = 1000050, room = 100000;
+    metroheap_event stat = metroheap_control(METROHEAP_EVENT_STAT, 0);
+    metroheap_event same = metroheap_command(METROHEAP_EVENT_SAME, 0, 0, 0, 0);
+    uint64_t at = 0;
+    CHECK(opens_scheduled(&heap) == METROHEAP_DONE && metroheap_reserve(&heap, room) == METROHEAP_DONE);
+    requests = 0;
+    for (uint32_t n = 0; n < most; n++) {
+        if (n % room == 0) {
+            CHECK(metroheap_forget(&heap) == METROHEAP_DONE);
+            at = 0;
+        }
+        CHECK(step(&heap, nth_event(n)) == METROHEAP_DONE);
+        CHECK(metroheap_last_units(&heap, &units) == METROHEAP_DONE && units.at == at);
+        at += units.mutator + units.collector;
+    }
+    CHECK(requests == 0 && is_right(stat, sees(&heap).stat) && ask("* stat") == METROHEAP_DONE);
+    CHECK(ask("") == METROHEAP_BLANK && ask("a") == METROHEAP_WRONG);
+    CHECK(metroheap_see_report(&heap, 100, &reply) == METROHEAP_DONE);
+    CHECK(reply.numbers[METROHEAP_REPORT_MUTATOR] + reply.numbers[METROHEAP_REPORT_COLLECTOR] == at);
+    CHECK(metroheap_open_world(&heap, 2) == METROHEAP_DONE);
+    requests = 0;
+    for (uint32_t n = 0; n < most; n++) {
+        CHECK(step(&heap, same) == METROHEAP_DONE && reply.kind == METROHEAP_REPLY_YES);
+    }
+    CHECK(requests == 0 && is_right(same, reply_of(METROHEAP_REPLY_YES, 0)) && answers("a same 0 0", "yes"));
+}
+
+/* Refused memory --------------------------------------------------------- */
 
 /* Has the first request of a call refused, then the second, and so on, until the call asks for no more. A call that is
 ** refused leaves all as it was. Returns how many requests were refused. */
@@ -527,12 +662,15 @@ static long refused_in_turn(metroheap *which, int32_t (*call)(metroheap *), int3
     }
 }
 
-static int32_t opens(metroheap *which) {
-    return metroheap_open(which, 16, 250, 8, 0, 2);
-}
-
 static int32_t opens_world(metroheap *which) {
     return metroheap_open_world(which, 2);
+}
+
+/* For so many events room is made. */
+enum { RESERVED = 4000 };
+
+static int32_t reserves(metroheap *which) {
+    return metroheap_reserve(which, RESERVED);
 }
 
 static int32_t steps(metroheap *which) {
@@ -612,12 +750,66 @@ static void refused_events(int32_t (*open)(metroheap *), int32_t (*call)(metrohe
     metroheap_close(&other);
 }
 
-/* Opens a machine whose next event asks for no memory: its trace has had room for a few, which took none of it. */
-static void opens_with_room(void) {
-    CHECK(opens(&heap) == METROHEAP_DONE);
-    for (int i = 0; i < 4; i++) {
-        CHECK(step(&heap, metroheap_command(METROHEAP_EVENT_CLEAR, 0, 0, 0, 0)) == METROHEAP_DONE);
+/* Opens a machine whose scheduler runs a quantum after each command, and a cycle after the other. */
+static int32_t opens_busy(metroheap *which) {
+    return metroheap_open(which, 16, 250, 16, 1, 2);
+}
+
+/* Events of all kinds, then commands alone, each of which adds as much to the trace as an event can, and then reports
+** of many windows. Of each as many as have room. */
+static metroheap_event busy_event(uint32_t n) {
+    if (n < RESERVED) {
+        return any_event(n);
     }
+    return n < 2 * RESERVED || n % 2 ? nth_event(n) : metroheap_control(METROHEAP_EVENT_REPORT, n);
+}
+
+/* Where room was made for events, so many ask for no memory, and so many more each time that the trace is forgotten.
+** Beside that machine is one without room that is refused nothing. */
+static void reserved_events(int32_t (*call)(metroheap *)) {
+    metroheap other = METROHEAP_INIT;
+    long answered[METROHEAP_EVENT_LEFT + 1] = {0}, added_most = 0;
+    CHECK(opens_busy(&heap) == METROHEAP_DONE && opens_busy(&other) == METROHEAP_DONE);
+    CHECK(refused_in_turn(&heap, reserves, METROHEAP_NO_MEMORY) > 1);
+    for (uint32_t n = 0; n < 3 * RESERVED; n++) {
+        metroheap_reply answer;
+        if (n % RESERVED == 0) {
+            CHECK(metroheap_forget(&heap) == METROHEAP_DONE && metroheap_forget(&other) == METROHEAP_DONE);
+        }
+        event = busy_event(n);
+        requests = 0;
+        granted = 0;
+        CHECK(call(&heap) == METROHEAP_DONE && requests == 0);
+        granted = -1;
+        answer = reply;
+        CHECK(step(&other, event) == METROHEAP_DONE && is_same(&answer, &reply));
+        answered[event.kind] += reply.kind != METROHEAP_REPLY_REFUSED;
+        CHECK(metroheap_last_units(&heap, &units) == METROHEAP_DONE);
+        added_most += n / RESERVED == 1 && units.mutator > 0 && units.collector > 0;
+    }
+    for (uint32_t kind = METROHEAP_EVENT_NEW; kind <= METROHEAP_EVENT_LEFT; kind++) {
+        CHECK(kind == METROHEAP_EVENT_DUMP || answered[kind] > 0);
+    }
+    CHECK(added_most == RESERVED && sees(&heap).stat.numbers[METROHEAP_STAT_CYCLE] > 100);
+
+    /* A dump alone asks. */
+    CHECK(metroheap_forget(&heap) == METROHEAP_DONE);
+    event = metroheap_control(METROHEAP_EVENT_DUMP, 0);
+    CHECK(refused_in_turn(&heap, call, METROHEAP_NO_MEMORY) > 0 && is_dump_the_same(&heap, &other));
+
+    /* Room is made for events after others too. */
+    CHECK(refused_in_turn(&other, reserves, METROHEAP_NO_MEMORY) > 0);
+    requests = 0;
+    for (uint32_t n = RESERVED; n < 2 * RESERVED; n++) {
+        CHECK(step(&other, busy_event(n)) == METROHEAP_DONE);
+    }
+    CHECK(requests == 0);
+    metroheap_close(&other);
+}
+
+/* Opens a machine with room for some events. */
+static void opens_with_room(void) {
+    CHECK(opens(&heap) == METROHEAP_DONE && metroheap_reserve(&heap, 8) == METROHEAP_DONE);
 }
 
 static void refused_texts(void) {
@@ -700,7 +892,9 @@ int main(void) {
     deeds();
     judging();
     worlds();
-    full_histories();
+    forgetting();
+    reserving();
+    long_histories();
     for (int rest = 0; rest < 2; rest++) {
         refuses_rest = rest;
         refused_opening();
@@ -708,6 +902,8 @@ int main(void) {
         refused_events(opens, judges, 0);
         refused_events(opens_world, steps, 1);
         refused_events(opens_world, judges, 1);
+        reserved_events(steps);
+        reserved_events(judges);
         refused_texts();
         refuses_rest = rest;
         refused_deeds();
@@ -715,6 +911,6 @@ int main(void) {
     metroheap_close(&heap);
     CHECK(heap.machine == NULL);
     closed_handles();
-    printf("each status, and each refused request\n");
+    printf("each status but one, and each refused request\n");
     return 0;
 }

@@ -5,9 +5,9 @@
 **     vm [--bug B] [--rounds N] [--words N]
 **
 ** B plants one of the five faults of `enum bug`. If no numbers are given there
-** are 10 rounds of the programs (12 are the most that a world's events suffice
-** for), in a heap of 8,192 words. Exits 0 if each answer was right, 1 at the
-** first that isn't, which is printed, and 2 if anything else stops it.
+** are 10 rounds of the programs, in a heap of 8,192 words. The world keeps each
+** object, so more rounds take more memory. Exits 0 if each answer was right, 1
+** at the first that isn't, which is printed, and 2 if anything else stops it.
 **
 ** To judge a runtime of your own so, give each operation of its heap a line
 ** `tells(..)`, and find out which of its roots are slots. Here:

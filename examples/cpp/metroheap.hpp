@@ -165,9 +165,21 @@ public:
         return items;
     }
 
-    // What `* stat` and `* left` would answer now. They are no events.
+    // What `* stat`, `* left` and `* report WINDOW` would answer now. They are no events.
     metroheap_reply see_stat() { return sees(metroheap_see_stat); }
     metroheap_reply see_left() { return sees(metroheap_see_left); }
+    metroheap_reply see_report(std::uint64_t window) {
+        metroheap_reply reply{};
+        checks(metroheap_see_report(&heap_, window, &reply));
+        return reply;
+    }
+
+    // Makes room for the next `events` events, and for as many each time that the trace is forgotten. Then memory is
+    // refused for none of them, unless it is a dump. It may be refused for their texts and deeds.
+    void reserve(std::size_t events) { checks(metroheap_reserve(&heap_, events)); }
+
+    // Forgets the trace, from which reports count on then.
+    void forget() { checks(metroheap_forget(&heap_)); }
 
     // What the last event added to the trace.
     metroheap_units last_units() {

@@ -80,6 +80,23 @@ static void sights() {
     CHECK(throws<std::logic_error>([&] { heap.deeds(); }));
 }
 
+static void traces() {
+    Metroheap heap(16, 400, 8, 40);
+    heap.reserve(3);
+    CHECK(throws<std::bad_alloc>([&] { heap.reserve(SIZE_MAX); }));
+    heap.step(metroheap_command(METROHEAP_EVENT_NEW, 0, 0, 0, 2340));
+    metroheap_reply report = heap.see_report(420);
+    CHECK(report.numbers[METROHEAP_REPORT_MUTATOR] == 40 && report.numbers[METROHEAP_REPORT_QUANTA] == 1);
+    CHECK(heap.last_reply().kind == METROHEAP_REPLY_OK);
+    CHECK(!heap.judge(metroheap_control(METROHEAP_EVENT_REPORT, 420), report) && heap.last_units().at == 440);
+    heap.forget();
+    report = heap.see_report(420);
+    CHECK(report.numbers[METROHEAP_REPORT_MUTATOR] == 0 && report.numbers[METROHEAP_REPORT_QUANTA] == 0);
+    CHECK(report.numbers[METROHEAP_REPORT_HAS_LEAST] == 0 && report.numbers[METROHEAP_REPORT_FLOOR] == 20);
+    heap.step(metroheap_command(METROHEAP_EVENT_SHAPE, 0, 0, 0, 0));
+    CHECK(heap.last_text() == "shape 0 2340" && heap.last_units().at == 0);
+}
+
 static void judging() {
     MetroheapWorld world;
     metroheap_event made = metroheap_command(METROHEAP_EVENT_NEW, 0, 0, 0, 1);
@@ -103,6 +120,7 @@ int main() {
     errors(heap);
     long_texts();
     sights();
+    traces();
     judging();
     return 0;
 }

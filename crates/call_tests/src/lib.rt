@@ -26,6 +26,8 @@ mod cycle_tests;
 #[cfg(test)]
 mod famine_tests;
 #[cfg(test)]
+mod forget_tests;
+#[cfg(test)]
 mod grey_tests;
 #[cfg(test)]
 mod judge_tests;

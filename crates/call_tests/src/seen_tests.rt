@@ -1,7 +1,7 @@
 //! What is seen of runs. The numbers are those of the definitions as a program, which ran both scripts in heaps of 1 to 9
 //! pages.
 
-use mh_model::limits::MOST_EVENTS;
+use mh_model::limits::MOST_ENTRIES;
 use mh_scan::scan::OneScan;
 use mh_seen::fewest::{fewest_seen, with_pages};
 use mh_seen::full::is_never_full;
@@ -30,7 +30,7 @@ fn facts_in(alloc: Global, text: &[u8], pages: u32) -> Result<Option<Facts>, Fai
     let Some(heap) = with_pages(&script.config(), pages) else {
         return Ok(None);
     };
-    if events.len() as u64 > MOST_EVENTS {
+    if events.len() as u64 > MOST_ENTRIES {
         return Ok(None);
     }
     let mut scanner = OneScan::new(alloc);

@@ -9,7 +9,7 @@ ghost use Rattle.mh_model.specs.declared.command.Control.TheVariants as controls
 ghost use Rattle.mh_model.specs.Script.{line_of};
 ghost use Rattle.mh_embed.specs.Configs.{numbered_config, world_config};
 ghost use Rattle.mh_embed.specs.Driving.{first_driven, first_world_driven, without_newline};
-ghost use Rattle.mh_embed.specs.Endings.{AnswerEnds, DeedEnds, ItemEnds, JudgeEnds, ReasonEnds, ReplyEnds, SeeEnds, StepEnds, TellEnds, TextEnds, UnitsEnd};
+ghost use Rattle.mh_embed.specs.Endings.{AnswerEnds, DeedEnds, ForgetEnds, ItemEnds, JudgeEnds, ReasonEnds, ReplyEnds, ReportEnds, ReserveEnds, SeeEnds, StepEnds, TellEnds, TextEnds, UnitsEnd};
 ghost use Rattle.metroheap_c.specs.Calls.{AnswersSo, IsUntold, OnHandle, Opens, Reads, version_number};
 
 mod handle;
@@ -279,6 +279,53 @@ pub extern "C" fn metroheap_see_left(
         return Status::Closed.code();
     };
     let status = embedded.see_left(shown);
+    heap.keep(embedded);
+    status.code()
+}
+
+/// Shows the report of the trace since it was last forgotten, for windows of this length.
+#[unsafe(no_mangle)]
+pub extern "C" fn metroheap_see_report(
+    alloc: Global,
+    heap: &mut Handle,
+    window: u64,
+    shown: &mut ReplyNumbers,
+) -> i32
+    ensures { OnHandle (shown.new ≡ shown.old) (Reads (λ old. ReportEnds old.driver window shown.old shown.new)) heap.old.value heap.new.value result }
+{
+    let Some(kept) = heap.take(alloc) else {
+        return Status::Closed.code();
+    };
+    let mut embedded = kept;
+    let status = embedded.see_report(window, shown);
+    heap.keep(embedded);
+    status.code()
+}
+
+/// Makes room for so many events, none of which is then refused memory, unless it is a dump.
+#[unsafe(no_mangle)]
+pub extern "C" fn metroheap_reserve(alloc: Global, heap: &mut Handle, events: usize) -> i32
+    ensures { OnHandle (Unit {0}) (λ old new status. ReserveEnds old events new status) heap.old.value heap.new.value result }
+{
+    let Some(kept) = heap.take(alloc) else {
+        return Status::Closed.code();
+    };
+    let mut embedded = kept;
+    let status = embedded.reserve(events);
+    heap.keep(embedded);
+    status.code()
+}
+
+/// Forgets the trace, from which reports count on then.
+#[unsafe(no_mangle)]
+pub extern "C" fn metroheap_forget(alloc: Global, heap: &mut Handle) -> i32
+    ensures { OnHandle (Unit {0}) (λ old new status. ForgetEnds old new status) heap.old.value heap.new.value result }
+{
+    let Some(kept) = heap.take(alloc) else {
+        return Status::Closed.code();
+    };
+    let mut embedded = kept;
+    let status = embedded.forget();
     heap.keep(embedded);
     status.code()
 }

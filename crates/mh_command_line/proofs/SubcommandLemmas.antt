@@ -30,7 +30,7 @@ use Rattle.mh_command_line.specs.declared.options.OptionFault.{OptionFault}
 use Rattle.mh_command_line.specs.declared.options.OptionFault.TheVariants.{NoNumber, NoProfile, NoBlocks, Missing, Lacking, Unwanted, OfLog, NoFullAlone, OfCurve, Beside, Outside}
 use Rattle.clap.specs.declared.error.kind.ErrorKind.{ErrorKind}
 use Rattle.mh_command_line.specs.Orders.{AreAmiss, AreNoBlocks, AreOfCurve, AreOfLog, AskAmiss, AsksOutside, AsksVersion, GivesOrder, HasFewWorkers, HasFirstRules, HasOptionFault, IsBeside, IsFault, IsLacking, IsMissing, IsNoNumber, IsNoProfile, IsOrder, IsOutside, IsUnwanted, LackSessions, Named, NotMet, NotTaken, IsSaidOfRefusal, RefusesOptions, kind_of_fault}
-use Rattle.mh_command_line.specs.Line.{AsksForFew, AsksForRange, AsksForRules, Checks, Generates, HasFlag, IsSubcommand, Lists, NamesOne, Nothing, Runs, Shows, TakesWorkers, Tells, Workers, any_text, check_app, controls_numbers, cycles_app, event_numbers, every_numbers, flag_rule, generate_app, metroheap, page_numbers, quantum_numbers, round_numbers, rules_numbers, run_app, seeds, session_numbers, show_app, steps_app, step_numbers, trigger_numbers, worker_numbers, workers_app, Curves, curve_app, Sizes, block_numbers, part_numbers, percents, scheduled_numbers, size_app, startup_numbers, window_numbers}
+use Rattle.mh_command_line.specs.Line.{AsksForFew, AsksForRange, AsksForRules, Checks, Generates, HasFlag, IsSubcommand, Answers, Lists, NamesOne, Nothing, Races, Runs, Shows, Tells, any_text, check_app, controls_numbers, cycles_app, event_numbers, every_numbers, flag_rule, generate_app, live_app, metroheap, page_numbers, quantum_numbers, round_numbers, rules_numbers, run_app, seeds, session_numbers, show_app, steps_app, step_numbers, trigger_numbers, worker_numbers, workers_app, Curves, curve_app, Sizes, block_numbers, part_numbers, percents, scheduled_numbers, size_app, startup_numbers, window_numbers}
 use Rattle.mh_command_line.proofs.OptionLemmas.{AreRead, IsSafe, level-read, never, none-missing, none_first, none_next, safe-flag, safe-given, safe-help, safe-value, value-given, value-may, value_rule}
 
 -- Options ----------------------------------------------------------------------------------------
@@ -39,16 +39,17 @@ use Rattle.mh_command_line.proofs.OptionLemmas.{AreRead, IsSafe, level-read, nev
 abbrev option_parser : Text → ValueParser
 option_parser name =
     if bytes_eq name (codes "workers") then worker_numbers else (if bytes_eq name (codes "rules") then rules_numbers
-    else (if bytes_eq name (codes "history") then vp.Bool else any_text))
+    else (if bytes_eq name (codes "history") then vp.Bool else (if bytes_eq name (codes "world") then vp.Bool else any_text)))
 
 -- each is read as it was written
 read_plain : (name : Text) → reading_of (option_parser name) ≡ AsWritten
-read_plain name = go (bytes_eq name (codes "workers")) (bytes_eq name (codes "rules")) (bytes_eq name (codes "history")) where
-  go : (a b c : Bool) → reading_of (if a then worker_numbers else (if b then rules_numbers else (if c then vp.Bool else any_text))) ≡ AsWritten
-  go true b c = refl
-  go false true c = refl
-  go false false true = refl
-  go false false false = refl
+read_plain name = go (bytes_eq name (codes "workers")) (bytes_eq name (codes "rules")) (bytes_eq name (codes "history")) (bytes_eq name (codes "world")) where
+  go : (a b c d : Bool) → reading_of (if a then worker_numbers else (if b then rules_numbers else (if c then vp.Bool else (if d then vp.Bool else any_text)))) ≡ AsWritten
+  go true b c d = refl
+  go false true c d = refl
+  go false false true d = refl
+  go false false false true = refl
+  go false false false false = refl
 
 abbrev AllRead : List Row → Type 0
 AllRead rows = AreRead option_parser read_plain rows
@@ -66,6 +67,9 @@ few-may rows all = value-may option_parser read_plain (codes "workers") rows all
 
 rules-may : (rows : List Row) → AllRead rows → AsksForRules rows
 rules-may rows all = value-may option_parser read_plain (codes "rules") rows all
+
+world-may : (rows : List Row) → AllRead rows → HasFlag (codes "world") rows
+world-may rows all = flag-may (one_of (codes "world") rows) (value-may option_parser read_plain (codes "world") rows all)
 
 history-may : (rows : List Row) → AllRead rows → HasFlag (codes "history") rows
 history-may rows all = flag-may (one_of (codes "history") rows) (value-may option_parser read_plain (codes "history") rows all)
@@ -89,12 +93,19 @@ flag-safe name i is = safe-flag option_parser read_plain name i is
 help-safe : IsSafe option_parser read_plain (with_index 1 (filled help_rule))
 help-safe = safe-help option_parser read_plain 1
 
-sound-workers : (name : Text) → TakesWorkers name → IsSound (built_leaf (workers_app name).top)
-sound-workers name is words e =
-    let s : Shape = built_leaf (workers_app name).top in
+sound-live : IsSound (built_leaf live_app.top)
+sound-live words e =
+    let s : Shape = built_leaf live_app.top in
+    let rows : List Row = rows_after s.rules [] words in
+    let all : AllRead rows = level-read option_parser read_plain s words (value-safe (codes "workers") 1, (flag-safe (codes "world") 1 refl, (help-safe, tt))) e in
+    Answers refl (few-may rows all, world-may rows all)
+
+sound-race : IsSound (built_leaf (workers_app (codes "race")).top)
+sound-race words e =
+    let s : Shape = built_leaf (workers_app (codes "race")).top in
     let rows : List Row = rows_after s.rules [] words in
     let all : AllRead rows = level-read option_parser read_plain s words (value-safe (codes "workers") 1, (help-safe, tt)) e in
-    Workers is (few-may rows all)
+    Races refl (few-may rows all)
 
 sound-run : IsSound (built_leaf run_app.top)
 sound-run words e =
@@ -376,9 +387,9 @@ sound-metroheap = (
       (
         sound-show,
         (
-          sound-workers (codes "live") (inl refl),
+          sound-live,
           (
-            sound-workers (codes "race") (inr refl),
+            sound-race,
             (sound-check, ((λ words e. Nothing (inl refl)), ((λ words e. Nothing (inr refl)), (sound-generate, (sound-curve, (sound-size, tt)))))),
           ),
         ),

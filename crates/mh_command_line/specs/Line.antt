@@ -124,6 +124,10 @@ flag_rule name = record (named_rule name) { action = Some SetTrue }
 abbrev pub workers_app : Text → App
 workers_app name = with_rule (new_app name) workers_rule
 
+-- `live`, of a machine or of a world
+abbrev pub live_app : App
+live_app = with_rule (workers_app (codes "live")) (flag_rule (codes "world"))
+
 -- a subcommand with the four numbers of a configuration
 abbrev pub config_app : Text → App
 config_app name = with_rule (with_rule (with_rule (with_rule (new_app name) (number_rule (codes "pages"))) (number_rule (codes "quantum"))) (number_rule (codes "trigger"))) (number_rule (codes "every"))
@@ -196,7 +200,7 @@ optional_app =
     steps_app.top)
     cycles_app.top)
     show_app.top)
-    (workers_app (codes "live")).top)
+    live_app.top)
     (workers_app (codes "race")).top)
     check_app.top)
     (new_app (codes "audit")).top)
@@ -294,6 +298,10 @@ HasFlag name rows = IfSome (one_of name rows) (λ text. (text ≡ codes "true") 
 abbrev pub AsksToRun : List Row → Type 0
 AsksToRun rows = AsksForFew rows × AsksForRules rows × HasFlag (codes "history") rows
 
+-- those of `live`
+abbrev pub AsksToAnswer : List Row → Type 0
+AsksToAnswer rows = AsksForFew rows × HasFlag (codes "world") rows
+
 -- those of `show`
 pub record AsksForRange (rows : List Row) : Type 0 where
   pub from : IfSome (one_of (codes "from") rows) (IsUnsignedIn 0 4294967295)
@@ -349,10 +357,6 @@ pub record AsksToSize (rows : List Row) : Type 0 where
   pub startup : IfSome (one_of (codes "startup") rows) (IsUnsignedIn 0 1000000)
   pub run : HasFlag (codes "run") rows
 
--- a subcommand that has workers and no other option
-abbrev pub TakesWorkers : Text → Type 0
-TakesWorkers name = (name ≡ codes "live") ⊎ (name ≡ codes "race")
-
 -- the subcommand wants a configuration: `migrate` does, and `check` without `--sessions` and `--log`
 abbrev pub WantsConfig : Text → List Row → Type 0
 WantsConfig name rows = ((name ≡ codes "check") × (is_flagged (codes "sessions") rows ≡ false) × (is_flagged (codes "log") rows ≡ false)) ⊎ (name ≡ codes "migrate")
@@ -363,7 +367,8 @@ pub data IsSubcommand (name : Text) (rows : List Row) : Type 0 where
   Tells : name ≡ codes "steps" → AsksToTell rows → IsSubcommand name rows
   Lists : name ≡ codes "cycles" → AsksForRules rows → IsSubcommand name rows
   Shows : name ≡ codes "show" → AsksForRange rows → IsSubcommand name rows
-  Workers : TakesWorkers name → AsksForFew rows → IsSubcommand name rows
+  Answers : name ≡ codes "live" → AsksToAnswer rows → IsSubcommand name rows
+  Races : name ≡ codes "race" → AsksForFew rows → IsSubcommand name rows
   Checks : name ≡ codes "check" → AsksToCheck rows → IsSubcommand name rows
   Generates : name ≡ codes "generate" → AsksToGenerate rows → IsSubcommand name rows
   Curves : name ≡ codes "curve" → AsksToCurve rows → IsSubcommand name rows

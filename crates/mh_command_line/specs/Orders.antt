@@ -21,6 +21,9 @@ use Rattle.mh_orders.specs.declared.order.Order.{Order}
 use Rattle.mh_orders.specs.declared.order.Order.TheVariants.{Run, Steps, Show, Live, Race, Check, CheckSessions, CheckLog, Audit, Migrate, Generate, Version, Chrome, Cycles, Curve, CurveHistory, CurvePauses, Size, SizeRate, SizeTarget, SizeScript}
 use Rattle.mh_orders.specs.declared.order.Form.{Form}
 use Rattle.mh_orders.specs.declared.order.Form.TheVariants.{Replies, History}
+use Rattle.mh_orders.specs.declared.order.LiveHeap.{LiveHeap}
+use Rattle.mh_orders.specs.declared.order.LiveHeap.TheVariants.{Machine, World}
+use Rattle.mh_orders.specs.declared.order.LiveOptions.{LiveOptions}
 use Rattle.mh_orders.specs.declared.order.RunOptions.{RunOptions}
 use Rattle.mh_orders.specs.declared.order.SessionsOptions.{SessionsOptions}
 use Rattle.mh_orders.specs.declared.order.StepsOptions.{StepsOptions}
@@ -78,6 +81,15 @@ pub record AreRunOptions (rows : List Row) (options : RunOptions) : Type 0 where
   pub rules : options.rules ≡ rules_chosen Second rows
   pub form : options.form ≡ form_of_run rows
 
+-- what answers lines: a machine, or a world if the flag is given
+abbrev pub heap_of_live : List Row → LiveHeap
+heap_of_live rows = if is_flagged (codes "world") rows then World else Machine
+
+-- the options of answers to lines
+pub record AreLiveOptions (rows : List Row) (options : LiveOptions) : Type 0 where
+  pub workers : options.workers ≡ workers_of rows
+  pub heap : options.heap ≡ heap_of_live rows
+
 -- how steps are written: in words, or as JSON if the flag is given
 abbrev pub steps_form_of : List Row → steps.Form
 steps_form_of rows = if is_flagged (codes "json") rows then form.Json else form.Text
@@ -134,7 +146,7 @@ IsOrder name rows (Steps options) = (name ≡ codes "steps") × (is_flagged (cod
 IsOrder name rows (Chrome options) = (name ≡ codes "steps") × (is_flagged (codes "chrome") rows ≡ true) × AreRangeOptions rows options
 IsOrder name rows (Cycles rules) = (name ≡ codes "cycles") × (rules ≡ rules_chosen Second rows)
 IsOrder name rows (Show options) = (name ≡ codes "show") × AreRangeOptions rows options
-IsOrder name rows (Live workers) = (name ≡ codes "live") × (workers ≡ workers_of rows)
+IsOrder name rows (Live options) = (name ≡ codes "live") × AreLiveOptions rows options
 IsOrder name rows (Race workers) = (name ≡ codes "race") × (workers ≡ workers_of rows)
 IsOrder name rows (Check config) = (name ≡ codes "check") × (is_flagged (codes "sessions") rows ≡ false) × (is_flagged (codes "no-full") rows ≡ false) × (is_flagged (codes "log") rows ≡ false) × MakesConfig (rules_chosen First rows) rows config
 IsOrder name rows (CheckSessions options) = (name ≡ codes "check") × (is_flagged (codes "sessions") rows ≡ true) × (is_flagged (codes "log") rows ≡ false) × HasNoConfig rows × AreSessionsOptions rows options
@@ -176,7 +188,7 @@ IsOutside name rows option = (WantsConfig name rows × AreOutside rows option) �
 -- from 1 to 64 workers, if the order has workers
 abbrev pub HasFewWorkers : Order → Type 0
 HasFewWorkers (Run options) = (0 < options.workers) × (options.workers ≤ 64)
-HasFewWorkers (Live workers) = (0 < workers) × (workers ≤ 64)
+HasFewWorkers (Live options) = (0 < options.workers) × (options.workers ≤ 64)
 HasFewWorkers (Race workers) = (0 < workers) × (workers ≤ 64)
 HasFewWorkers order = Unit {0}
 

@@ -14,14 +14,14 @@ ghost use Rattle.std.specs.Prelude.{◌≡◌, IfOk, IsOkAnd, Some, false, true,
 ghost use Rattle.clap.specs.Words.{app_of, new_app, rule_of, with_rule, with_subcommand};
 ghost use Rattle.clap.specs.declared.builder.command.Command.TheViews.{out-Command};
 ghost use Rattle.clap.specs.declared.builder.value_parser.ValueParser.TheVariants.{Unsigned};
-ghost use Rattle.mh_command_line.specs.Line.{any_text, check_app, config_app, configured_app, cycles_app, flag_rule, generate_app, metroheap, named_rule, option_rule, page_numbers, optional_app, parsed_rule, profile_rule, quantum_numbers, ranged_app, required_rule, rules_rule, run_app, seeded_app, show_app, step_numbers, steps_app, trigger_numbers, versioned, workers_app, workers_rule};
+ghost use Rattle.mh_command_line.specs.Line.{any_text, check_app, config_app, configured_app, cycles_app, flag_rule, generate_app, live_app, metroheap, named_rule, option_rule, page_numbers, optional_app, parsed_rule, profile_rule, quantum_numbers, ranged_app, required_rule, rules_rule, run_app, seeded_app, show_app, step_numbers, steps_app, trigger_numbers, versioned, workers_app, workers_rule};
 
 use crate::curve::curve;
 use crate::size::size;
 use clap::builder::ValueParser;
 use clap::{Arg, ArgAction, Command};
 use mh_model::limits::{
-    LEAST_QUANTUM, MOST_EVENTS, MOST_EVERY, MOST_PAGES, MOST_QUANTUM, MOST_WORKERS, SESSIONS,
+    LEAST_QUANTUM, MOST_ENTRIES, MOST_EVERY, MOST_PAGES, MOST_QUANTUM, MOST_WORKERS, SESSIONS,
 };
 use std::alloc::{AllocError, Global};
 
@@ -383,17 +383,20 @@ fn show<'a>(alloc: Global) -> Result<Command<'a>, AllocError>
 }
 
 fn live<'a>(alloc: Global) -> Result<Command<'a>, AllocError>
-    ensures app { IfOk result (λ command. app_of command ≡ workers_app (codes "live")) }
+    ensures app { IfOk result (λ command. app_of command ≡ live_app) }
     ensures local { IfOk result (λ command. (out-Command command).has_globals ≡ false) }
 {
     let command = subcommand(
         alloc,
         "live",
         ABOUT_LIVE,
-        "metroheap live [--workers <W>] < LINES",
+        "metroheap live [--workers <W>] [--world] < LINES",
         LIVE_STATUSES,
     );
-    with_option(Ok(command), workers(alloc))
+    let command = with_option(Ok(command), workers(alloc));
+    let help =
+        "Answer by a heap that never collects and is never full, with no configuration before the first line";
+    with_option(command, flag(alloc, "world", help))
 }
 
 fn race<'a>(alloc: Global) -> Result<Command<'a>, AllocError>
@@ -468,7 +471,7 @@ fn seeded<'a>(alloc: Global) -> Result<Command<'a>, AllocError>
     let seed = required(alloc, "seed", "N", 0, u64::MAX, help);
     let command = with_option(Ok(command), seed);
     let help = "How many events the script has, from 1 to 1000000";
-    let events = required(alloc, "events", "M", 1, MOST_EVENTS, help);
+    let events = required(alloc, "events", "M", 1, MOST_ENTRIES, help);
     let command = with_option(command, events);
     let help = "How many sessions do the work, from 1 to 8; 4 if it is not given";
     let sessions = bounded(alloc, "sessions", "S", 1, SESSIONS as u64, help);
@@ -510,7 +513,7 @@ fn generate<'a>(alloc: Global) -> Result<Command<'a>, AllocError>
     let command = with_option(command, profile(alloc));
     let help =
         "Each C-th event is a quantum and no other a control, from 0, for none, to 1000000; all kinds by chance if it is not given";
-    let controls = bounded(alloc, "controls", "C", 0, MOST_EVENTS, help);
+    let controls = bounded(alloc, "controls", "C", 0, MOST_ENTRIES, help);
     let command = with_option(command, controls);
     with_option(command, rules(alloc, RULES_OF_A_SCRIPT))
 }

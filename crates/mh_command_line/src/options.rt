@@ -15,13 +15,15 @@ ghost use Rattle.std.specs.List.{list_all};
 ghost use Rattle.std.specs.Str.Parse.{without_leading_plus};
 ghost use Rattle.clap.specs.Words.{IsUnsignedIn, found_of, one_of, rows_of};
 ghost use Rattle.mh_model.specs.declared.config.Rules.TheVariants.{Second};
-ghost use Rattle.mh_command_line.specs.Line.{AsksForFew, AsksForRange, AsksForRules, AsksToRun, AsksToTell, HasFlag, HoldsNumber, IsConfigOption, IsNumber, ReadsNumber, is_flagged, number_or, optional_number, rules_given, rules_numbered, rules_chosen, workers_of};
-ghost use Rattle.mh_command_line.specs.Orders.{AreRangeOptions, AreRunOptions, AreStepsOptions, HasFewWorkers, HasFirstRules, IsBlamed, IsNumberFault, IsOrder, MakesConfig};
+ghost use Rattle.mh_command_line.specs.Line.{AsksForFew, AsksForRange, AsksForRules, AsksToAnswer, AsksToRun, AsksToTell, HasFlag, HoldsNumber, IsConfigOption, IsNumber, ReadsNumber, is_flagged, number_or, optional_number, rules_given, rules_numbered, rules_chosen, workers_of};
+ghost use Rattle.mh_command_line.specs.Orders.{AreLiveOptions, AreRangeOptions, AreRunOptions, AreStepsOptions, HasFewWorkers, HasFirstRules, IsBlamed, IsNumberFault, IsOrder, MakesConfig};
 
 use clap::ArgMatches;
 use mh_model::config::{Config, Rules};
 use mh_model::limits::{LEAST_QUANTUM, MOST_EVERY, MOST_PAGES, MOST_QUANTUM};
-use mh_orders::order::{ConfigOption, Form, Order, RunOptions, StepsOptions};
+use mh_orders::order::{
+    ConfigOption, Form, LiveHeap, LiveOptions, Order, RunOptions, StepsOptions,
+};
 use mh_orders::range::RangeOptions;
 use mh_orders::steps::{Form as StepsForm, Steps};
 use std::str::FromStr;
@@ -171,6 +173,23 @@ pub(crate) fn run_asked(matches: &ArgMatches<'_>) -> RunOptions
         workers: workers_asked(matches),
         rules: rules_asked(matches, Rules::Second),
         form,
+    }
+}
+
+/// How lines are to be answered.
+pub(crate) fn live_asked(matches: &ArgMatches<'_>) -> LiveOptions
+    requires { AsksToAnswer (rows_of (found_of matches.now)) }
+    ensures options { AreLiveOptions (rows_of (found_of matches.now)) result }
+    ensures few { (0 < result.workers) × (result.workers ≤ 64) }
+{
+    let heap = if is_flagged(matches, "world") {
+        LiveHeap::World
+    } else {
+        LiveHeap::Machine
+    };
+    LiveOptions {
+        workers: workers_asked(matches),
+        heap,
     }
 }
 

@@ -27,8 +27,8 @@ use crate::curve_options::curve_asked;
 use crate::fault::LineFault;
 use crate::generate_options::generate_asked;
 use crate::options::{
-    CurveFault, OptionFault, config_given, range_asked, rules_asked, run_asked, told_asked,
-    workers_asked,
+    CurveFault, OptionFault, config_given, live_asked, range_asked, rules_asked, run_asked,
+    told_asked, workers_asked,
 };
 use crate::quoted::{are_plain, quoted, quoted_words};
 use crate::size_options::size_asked;
@@ -52,7 +52,7 @@ fn order_named<'a>(name: &str, matches: &ArgMatches<'a>) -> Result<Order, Option
         "steps" => Ok(told_asked(matches)),
         "cycles" => Ok(Order::Cycles(rules_asked(matches, Rules::Second))),
         "show" => Ok(Order::Show(range_asked(matches))),
-        "live" => Ok(Order::Live(workers_asked(matches))),
+        "live" => Ok(Order::Live(live_asked(matches))),
         "race" => Ok(Order::Race(workers_asked(matches))),
         "check" => check_asked(matches),
         "audit" => Ok(Order::Audit),

@@ -10,7 +10,7 @@ use crate::command::{
     with_option,
 };
 use clap::Command;
-use mh_model::limits::MOST_EVENTS;
+use mh_model::limits::MOST_ENTRIES;
 use std::alloc::{AllocError, Global};
 
 const ABOUT_SIZE: &str =
@@ -100,7 +100,7 @@ pub(crate) fn size<'a>(alloc: Global) -> Result<Command<'a>, AllocError>
     let command = with_option(with_share(alloc), rules(alloc, RULES_OF_A_RUN));
     let help =
         "How many of the first events of the script are a startup, whose objects stay, from 0 to 1000000";
-    let startup = bounded(alloc, "startup", "EVENTS", 0, MOST_EVENTS, help);
+    let startup = bounded(alloc, "startup", "EVENTS", 0, MOST_ENTRIES, help);
     let command = with_option(command, startup);
     let help = "Run the script too, in heaps of the sizes that were found, and print what was seen";
     with_option(command, flag(alloc, "run", help))

@@ -9,12 +9,12 @@ use Rattle.mh_model.specs.declared.reply.Reply.{Reply}
 use Rattle.mh_model.specs.Bytes.{Text}
 use Rattle.mh_model.specs.Script.{Line, Calls, Asks, session_number, with_name}
 use Rattle.mh_embed.specs.declared.driver.Driver.{Driver}
-use Rattle.mh_embed.specs.declared.driver.Driver.TheVariants.{Collects, Grows}
+use Rattle.mh_embed.specs.declared.driver.Driver.TheVariants.{Grows}
 use Rattle.mh_embed.specs.declared.numbers.ReplyNumbers.{ReplyNumbers}
 use Rattle.mh_embed.specs.declared.status.Status.{Status}
 use Rattle.mh_embed.specs.declared.status.Status.TheVariants as status
-use Rattle.mh_embed.specs.Drivers.{Collected, Collecting, Grown}
-use Rattle.mh_embed.specs.Driving.{Driven, Takes, ByMachine, ByWorld, IsOfWorld, IsUndone, FullMachine, FullWorld, Starved, StarvedWorld, NoCollector, line_event, names_after}
+use Rattle.mh_live.specs.Worlds.{Grown}
+use Rattle.mh_embed.specs.Driving.{Driven, Takes, IsOfWorld, IsUndone, FullMachine, FullWorld, Starved, StarvedWorld, NoCollector, line_event, names_after}
 use Rattle.mh_embed.specs.Endings.{EventEnds, Done, Undone, LineEnds, Has, ReplyEnds, Shown, NoneYet}
 use Rattle.mh_embed.specs.Numbers.{IsShownBy}
 
@@ -39,14 +39,6 @@ some_of (Some x) is = (x, refl)
 pub none_of : {X : Type 0} (given : Option X) → is_some given ≡ false → given ≡ None
 none_of None is = refl
 none_of (Some x) is = cc
-
--- an event that is done on a machine is one of the machine
-pub by_machine : (driver driver' : Driver) (event : Event) (given : Reply) (was now : Collected) → driver ≡ Collects was → driver' ≡ Collects now → Takes driver event given driver' → Collecting was event given now
-by_machine _ _ event given was now is is' (ByMachine old _ _ new does) =
-    let a : old ≡ was = cc in
-    let b : new ≡ now = cc in
-    subst (λ o. Collecting o event given now) a (subst (λ n. Collecting old event given n) b does)
-by_machine _ _ event given was now is is' (ByWorld old who command _ new does) = cc
 
 -- what an event that is done leaves
 pub record IsAnswered (old : Driven) (event : Event) (seen : List Text) (new : Driven) : Type 0 where

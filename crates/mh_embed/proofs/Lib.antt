@@ -1,4 +1,4 @@
 pub mod EndingLemmas
 pub mod NumberLemmas
+pub mod ReservedLemmas
 pub mod TurnLemmas
-pub mod WorldLemmas

@@ -1,48 +1,64 @@
 -- A line whose event is done, in a run line by line.
-use Rattle.std.proofs.Common.{◌≡◌, ◌∙◌, ℕ, Some, List, refl, sym}
+use Rattle.std.proofs.Common.{◌≡◌, ◌∙◌, ℕ, Some, List, refl, sym, ap}
+use Rattle.std.specs.Prelude.{codes}
 use Rattle.std.proofs.lemmas.Bool.{lt-ltb}
 use Rattle.mh_model.specs.declared.command.Event.{Event}
 use Rattle.mh_model.specs.declared.command.Event.TheVariants as events
 use Rattle.mh_model.specs.declared.reply.Reply.{Reply}
 use Rattle.mh_model.specs.Bytes.{Text}
-use Rattle.mh_model.specs.Limits.{most_entries}
-use Rattle.mh_model.specs.Live.{answers_line, event_turn, line_turn, turn}
+use Rattle.mh_model.specs.Limits.{most_events}
+use Rattle.mh_model.specs.Live as model
+use Rattle.mh_model.specs.Live.{Turn, answers_line, command_turn, event_turn, line_turn, turn, world_turn}
 use Rattle.mh_model.specs.Replies.{reply_text}
-use Rattle.mh_model.specs.Script.{Line, Blank, Calls, Asks, Wrong, line_of, session_number, with_name}
+use Rattle.mh_model.specs.Script.{Line, Blank, Calls, Asks, Wrong, line_of, session_number}
 use Rattle.mh_embed.specs.declared.status.Status.TheVariants as status
 use Rattle.mh_embed.specs.declared.status.Status.{Status}
-use Rattle.mh_embed.specs.declared.driver.Driver.TheVariants.{Collects}
-use Rattle.mh_embed.specs.Drivers.{Collected, Collecting}
-use Rattle.mh_embed.specs.Driving.{Driven, line_event, names_after}
+use Rattle.mh_embed.specs.declared.driver.Driver.{Driver}
+use Rattle.mh_embed.specs.declared.driver.Driver.TheVariants.{Collects, Grows}
+use Rattle.mh_embed.specs.Driving.{ByMachine, ByWorld, Driven, Takes, line_event, names_after}
 use Rattle.mh_embed.specs.Endings.{LineEnds, Has}
 use Rattle.mh_embed.specs.Laws.{LinesAreTurns, live_with}
-use Rattle.mh_embed.proofs.EndingLemmas.{IsAnswered, answered, by_machine}
+use Rattle.mh_embed.proofs.EndingLemmas.{IsAnswered, answered}
 
 same_Some : (x y : Reply) → Some x ≡ Some y → x ≡ y
 same_Some x y e = cc
 
-module _ (old new : Driven) (was now : Collected) (first : old.driver ≡ Collects was) (then : new.driver ≡ Collects now) (given : Reply) (last : new.reply ≡ Some given) where
-  by_event : (event : Event) (seen : List Text) → IsAnswered old event seen new → event_turn was.machine.machine old.names was.machine.done seen event ≡ answers_line (reply_text given) (live_with new.names now)
-  by_event event seen answers =
-      let same : answers.given ≡ given = same_Some answers.given given (sym answers.reply ∙ last) in
-      let does : Collecting was event answers.given now = by_machine old.driver new.driver event answers.given was now first then answers.takes in
-      rw (lt-ltb was.machine.done most_entries does.room, (does.does).step, same, (does.does).done, answers.names) refl
+-- the turn of a line by what it says, and of its event with the names that are seen then
+abbrev said_turn : ℕ → List Text → Driver → Line → Turn
+said_turn n names (Collects run) says = line_turn n run.machine.machine names run.machine.done says
+said_turn n names (Grows run) says = world_turn n run.world names run.done says
 
-  by_line : (number : ℕ) (line : Line) (event : Event) → line_event old.names line ≡ Some event → IsAnswered old event (names_after old.names line) new
-      → line_turn number was.machine.machine old.names was.machine.done line ≡ answers_line (reply_text given) (live_with new.names now)
-  by_line number Blank event none answers = cc
-  by_line number Wrong event none answers = cc
-  by_line number (Calls name command) event is answers =
-      let same : events.Session (session_number old.names name) command ≡ event = cc in
-      rw same (by_event event (with_name old.names name) answers)
-  by_line number (Asks control) event is answers =
-      let same : events.Control control ≡ event = cc in
-      rw same (by_event event old.names answers)
+abbrev done_turn : List Text → List Text → Driver → Event → Turn
+done_turn names seen (Collects run) event = event_turn run.machine.machine names run.machine.done seen event
+done_turn names seen (Grows run) (events.Session who said) = command_turn run.world names run.done seen who said
+done_turn names seen (Grows run) (events.Control control) = answers_line (codes "refused 11 no collector") (model.Grows run.world names run.done)
 
-  by_end : (number : ℕ) (line : Line) (ends : Status) → ends ≡ status.Done → LineEnds old line new ends → line_turn number was.machine.machine old.names was.machine.done line ≡ answers_line (reply_text given) (live_with new.names now)
-  by_end number line _ done (Has event ends of_line is) = by_line number line event of_line (answered old event (names_after old.names line) new ends done is)
-  by_end number line _ done _ = cc
+turn_said : (n : ℕ) (names : List Text) (driver : Driver) (line : Text) → turn n (live_with names driver) line ≡ said_turn n names driver (line_of line)
+unfolding turn
+turn_said n names (Collects run) line = refl
+turn_said n names (Grows run) line = refl
+
+taken_turn : (names seen : List Text) (old new : Driver) (event : Event) (given : Reply) → Takes old event given new → done_turn names seen old event ≡ answers_line (reply_text given) (live_with seen new)
+taken_turn names seen _ _ _ _ (ByMachine old event given new does) = rw (lt-ltb old.machine.done most_events does.room, (does.does).step, (does.does).done) refl
+taken_turn names seen _ _ _ _ (ByWorld old who said given new does) = rw (lt-ltb old.done most_events does.room, does.does, does.done) refl
+
+said_done : (n : ℕ) (names : List Text) (driver : Driver) (says : Line) (event : Event) → line_event names says ≡ Some event → said_turn n names driver says ≡ done_turn names (names_after names says) driver event
+said_done n names driver Blank event is = cc
+said_done n names driver Wrong event is = cc
+said_done n names (Collects run) (Calls name said) event is = let same : events.Session (session_number names name) said ≡ event = cc in rw (← same) refl
+said_done n names (Grows run) (Calls name said) event is = let same : events.Session (session_number names name) said ≡ event = cc in rw (← same) refl
+said_done n names (Collects run) (Asks control) event is = let same : events.Control control ≡ event = cc in rw (← same) refl
+said_done n names (Grows run) (Asks control) event is = let same : events.Control control ≡ event = cc in rw (← same) refl
+
+by_end : (n : ℕ) (old new : Driven) (given : Reply) (says : Line) (ends : Status) → ends ≡ status.Done → LineEnds old says new ends → new.reply ≡ Some given
+    → said_turn n old.names old.driver says ≡ answers_line (reply_text given) (live_with new.names new.driver)
+by_end n old new given says _ done (Has event ends of_line is) last =
+    let answers : IsAnswered old event (names_after old.names says) new = answered old event (names_after old.names says) new ends done is in
+    let same : answers.given ≡ given = same_Some answers.given given (sym answers.reply ∙ last) in
+    said_done n old.names old.driver says event of_line ∙ taken_turn old.names (names_after old.names says) old.driver new.driver event answers.given answers.takes
+    ∙ ap (λ (reply : Reply). answers_line (reply_text reply) (live_with (names_after old.names says) new.driver)) same
+    ∙ ap (λ (names : List Text). answers_line (reply_text given) (live_with names new.driver)) (sym answers.names)
+by_end n old new given says _ done _ last = cc
 
 pub are_turns : LinesAreTurns
-unfolding turn
-are_turns number line old new was now given first then is last = by_end old new was now first then given last number (line_of line) status.Done refl is
+are_turns number line old new given ends last = turn_said number old.names old.driver line ∙ by_end number old new given (line_of line) status.Done refl ends last

@@ -7,7 +7,7 @@ use Rattle.mh_model.specs.declared.command.Event.TheVariants as event
 use Rattle.mh_model.specs.declared.config.Config.{Config}
 use Rattle.mh_model.specs.declared.reply.Reply.{Reply}
 use Rattle.mh_model.specs.Bytes.{Text, is_text}
-use Rattle.mh_model.specs.Limits.{most_entries}
+use Rattle.mh_model.specs.Limits.{most_events}
 use Rattle.mh_model.specs.Script.{Line, Blank, Calls, Asks, Wrong, session_number, with_name}
 use Rattle.mh_model.specs.World.{IsNew, never_full, refusal, sight_of}
 use Rattle.mh_script.specs.OfMachine.Running.{MayAskForMemory}
@@ -15,7 +15,8 @@ use Rattle.mh_embed.specs.declared.driver.Driver.{Driver}
 use Rattle.mh_embed.specs.declared.driver.Driver.TheVariants.{Collects, Grows}
 use Rattle.mh_embed.specs.declared.status.Status.{Status}
 use Rattle.mh_embed.specs.declared.status.Status.TheVariants as status
-use Rattle.mh_embed.specs.Drivers.{Collected, Collecting, Grown, Growing, first_collected, first_grown}
+use Rattle.mh_live.specs.Worlds.{Grown, Growing, first_grown}
+use Rattle.mh_embed.specs.Drivers.{Collected, Collecting, first_collected}
 
 -- a world is driven, which has no collector and no trace
 abbrev pub IsOfWorld : Driver → Type 0
@@ -44,9 +45,9 @@ pub data Takes : Driver → Event → Reply → Driver → Type 0 where
 
 -- Why an event is not done: the machine or the world has done as many as it may, memory was refused to an event that may ask for it or to a new object that nothing else refuses, or a world was asked for a control
 pub data IsUndone : Driver → Event → Status → Type 0 where
-  FullMachine : (old : Collected) (event : Event) → old.machine.done ≡ most_entries → IsUndone (Collects old) event status.Full
-  FullWorld : (old : Grown) (who : ℕ) (command : Command) → most_entries ≤ old.done → IsUndone (Grows old) (event.Session who command) status.Full
-  Starved : (old : Collected) (event : Event) → old.machine.done < most_entries → MayAskForMemory old.machine.room event → IsUndone (Collects old) event status.NoMemory
+  FullMachine : (old : Collected) (event : Event) → old.machine.done ≡ most_events → IsUndone (Collects old) event status.Full
+  FullWorld : (old : Grown) (who : ℕ) (command : Command) → most_events ≤ old.done → IsUndone (Grows old) (event.Session who command) status.Full
+  Starved : (old : Collected) (event : Event) → old.machine.done < most_events → MayAskForMemory old.machine.room event → IsUndone (Collects old) event status.NoMemory
   StarvedWorld : (old : Grown) (who : ℕ) (command : Command) → IsNew command → refusal (sight_of never_full old.world) who command ≡ None → IsUndone (Grows old) (event.Session who command) status.NoMemory
   NoCollector : (old : Grown) (control : Control) → IsUndone (Grows old) (event.Control control) status.IsWorld
 

@@ -6,13 +6,15 @@ use Rattle.mh_model.specs.declared.command.Event.TheVariants as event
 use Rattle.mh_model.specs.declared.deed.Deed.{Deed}
 use Rattle.mh_model.specs.declared.dump.DumpItem.{DumpItem}
 use Rattle.mh_model.specs.declared.reply.Reply.{Reply}
+use Rattle.mh_model.specs.declared.report.Report.{Report}
 use Rattle.mh_model.specs.Bytes.{Text}
-use Rattle.mh_model.specs.Machine.{control_step}
+use Rattle.mh_model.specs.Machine.{control_step, report_on}
 use Rattle.mh_model.specs.Replies.{reply_text}
 use Rattle.mh_model.specs.Script as script
 use Rattle.mh_model.specs.declared.reply.Reply.TheVariants as reply
 use Rattle.mh_model.specs.declared.reply.Refusal.TheVariants.{HeapFull}
 use Rattle.mh_model.specs.World.{IsNew, world_step}
+use Rattle.mh_trace_laws.specs.Forgetting.{KeepsPromise}
 use Rattle.mh_script.specs.OfReasons.LineReason.{LineReason}
 use Rattle.mh_script.specs.OfReasons.Reasons.{IsLineReason, IsWrong}
 use Rattle.mh_embed.specs.declared.driver.Driver.{Driver}
@@ -24,7 +26,7 @@ use Rattle.mh_embed.specs.declared.numbers.ReplyNumbers.{ReplyNumbers}
 use Rattle.mh_embed.specs.declared.numbers.UnitNumbers.{UnitNumbers}
 use Rattle.mh_embed.specs.declared.status.Status.{Status}
 use Rattle.mh_embed.specs.declared.status.Status.TheVariants as status
-use Rattle.mh_embed.specs.Drivers.{Collected}
+use Rattle.mh_embed.specs.Drivers.{Collected, Forgetting, Reserving}
 use Rattle.mh_embed.specs.Driving.{Driven, Takes, IsOfWorld, IsUndone, line_event, names_after}
 use Rattle.mh_embed.specs.Numbers.{IsDeedShownBy, IsItemShownBy, IsShownBy, event_numbered, items_of}
 
@@ -106,6 +108,25 @@ pub data DeedEnds (driver : Driver) (index : ℕ) (old new : DeedNumbers) : Stat
 pub data SeeEnds (driver : Driver) (asked : Control) (old new : ReplyNumbers) : Status → Type 0 where
   Seen : (collected : Collected) → driver ≡ Collects collected → IsShownBy (control_step collected.machine.machine asked).reply new → SeeEnds driver asked old new status.Done
   NotSeen : IsOfWorld driver → new ≡ old → SeeEnds driver asked old new status.IsWorld
+
+-- The report of the trace since it was last forgotten is asked for, which keeps the promise of the configuration
+pub data ReportEnds (driver : Driver) (window : ℕ) (old new : ReplyNumbers) : Status → Type 0 where
+  Reported : (collected : Collected) (report : Report) → driver ≡ Collects collected → report ≡ report_on collected.machine.machine.heap.config collected.machine.machine.trace window → KeepsPromise collected.machine.machine.heap.config report
+      → IsShownBy (reply.Report report) new → ReportEnds driver window old new status.Done
+  NotReported : IsOfWorld driver → new ≡ old → ReportEnds driver window old new status.IsWorld
+
+-- Memory -----------------------------------------------------------------------------------------
+
+-- Room for so many events is asked for
+pub data ReserveEnds (old : Driven) (events : ℕ) (new : Driven) : Status → Type 0 where
+  Reserved : (was now : Collected) → old.driver ≡ Collects was → new ≡ record old { driver = Collects now } → Reserving events was now → ReserveEnds old events new status.Done
+  NoRoom : (was : Collected) → old.driver ≡ Collects was → new ≡ old → ReserveEnds old events new status.NoMemory
+  NotReserved : IsOfWorld old.driver → new ≡ old → ReserveEnds old events new status.IsWorld
+
+-- The trace is to be forgotten
+pub data ForgetEnds (old new : Driven) : Status → Type 0 where
+  Forgotten : (was now : Collected) → old.driver ≡ Collects was → new ≡ record old { driver = Collects now } → Forgetting was now → ForgetEnds old new status.Done
+  NotForgotten : IsOfWorld old.driver → new ≡ old → ForgetEnds old new status.IsWorld
 
 -- Judging ----------------------------------------------------------------------------------------
 

@@ -1,29 +1,33 @@
 -- What is answered behind a handle, beside what a run line by line answers.
-use Rattle.std.specs.Prelude.{◌≡◌, ◌<◌, ℕ, true, Some, List}
+use Rattle.std.specs.Prelude.{◌≡◌, ◌<◌, ℕ, suc, true, false, Some, List}
 use Rattle.mh_model.specs.declared.command.Event.{Event}
 use Rattle.mh_model.specs.declared.command.Event.TheVariants as event
 use Rattle.mh_model.specs.declared.reply.Reply.{Reply}
 use Rattle.mh_model.specs.Bytes.{Text}
 use Rattle.mh_model.specs.Forms.{Phrase, command_phrase, control_phrase, is_sayable}
+use Rattle.mh_model.specs.Live as model
 use Rattle.mh_model.specs.Live.{Live, Runs, answers_line, turn}
 use Rattle.mh_model.specs.Replies.{reply_text}
 use Rattle.mh_model.specs.Script.{line_of}
-use Rattle.mh_embed.specs.declared.driver.Driver.TheVariants.{Collects}
+use Rattle.mh_script.specs.OfMachine.Reserved.{is_dump}
+use Rattle.mh_embed.specs.declared.driver.Driver.{Driver}
+use Rattle.mh_embed.specs.declared.driver.Driver.TheVariants.{Collects, Grows}
 use Rattle.mh_embed.specs.declared.numbers.EventNumbers.{EventNumbers}
 use Rattle.mh_embed.specs.declared.status.Status.TheVariants as status
-use Rattle.mh_embed.specs.Drivers.{Collected}
-use Rattle.mh_embed.specs.Driving.{Driven}
+use Rattle.mh_embed.specs.Drivers.{Collected, Forgetting, Reserving}
+use Rattle.mh_embed.specs.Driving.{Driven, IsUndone, Takes}
 use Rattle.mh_embed.specs.Endings.{LineEnds}
 use Rattle.mh_embed.specs.Numbers.{event_numbered}
 
--- the same machine, between two lines, when these names were seen
-abbrev pub live_with : List Text → Collected → Live
-live_with names collected = Runs collected.machine.machine names collected.machine.done
+-- the same machine or world, between two lines, when these names were seen
+abbrev pub live_with : List Text → Driver → Live
+live_with names (Collects collected) = Runs collected.machine.machine names collected.machine.done
+live_with names (Grows grown) = model.Grows grown.world names grown.done
 
--- A line whose event a machine does gets the text of its reply from a run line by line too, which then stands as here
+-- A line whose event is done gets the text of its reply from a run line by line too, which then stands as here
 abbrev pub LinesAreTurns : Type 0
-LinesAreTurns = (number : ℕ) (line : Text) (old new : Driven) (was now : Collected) (given : Reply) → old.driver ≡ Collects was → new.driver ≡ Collects now → LineEnds old (line_of line) new status.Done → new.reply ≡ Some given
-    → turn number (live_with old.names was) line ≡ answers_line (reply_text given) (live_with new.names now)
+LinesAreTurns = (number : ℕ) (line : Text) (old new : Driven) (given : Reply) → LineEnds old (line_of line) new status.Done → new.reply ≡ Some given
+    → turn number (live_with old.names old.driver) line ≡ answers_line (reply_text given) (live_with new.names new.driver)
 
 -- how an event is written, but for the name of its session
 abbrev pub event_phrase : Event → Phrase
@@ -38,3 +42,13 @@ HasSession (event.Control control) = Unit {0}
 -- Each event whose numbers are in the range of their types can be asked as numbers
 abbrev pub EventsHaveNumbers : Type 0
 EventsHaveNumbers = (asked : Event) → HasSession asked → is_sayable (event_phrase asked) ≡ true → (n : EventNumbers) × (event_numbered n ≡ Some asked)
+
+-- events were done and traces forgotten in turn, and so many events since the first of these moments or the last forgetting
+pub data Since (first : Driver) : ℕ → Driver → Type 0 where
+  AtFirst : Since first 0 first
+  Done : (count : ℕ) (old new : Driver) (event : Event) (given : Reply) → Since first count old → Takes old event given new → Since first (suc count) new
+  Forgotten : (count : ℕ) (was now : Collected) → Since first count (Collects was) → Forgetting was now → Since first 0 (Collects now)
+
+-- Once there is room for some events, memory is refused to none of the next so many, unless it is a dump; and so to none of so many after each time that the trace is forgotten
+abbrev pub ReservedEventsAreNotRefusedMemory : Type 0
+ReservedEventsAreNotRefusedMemory = (events : ℕ) (before first : Collected) (new : Driver) (count : ℕ) (event : Event) → Reserving events before first → Since (Collects first) count new → count < events → is_dump event ≡ false → ¬ IsUndone new event status.NoMemory

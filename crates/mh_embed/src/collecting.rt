@@ -1,9 +1,9 @@
 //! A machine, with what its last event added to the trace and, if they are asked for, the deeds of that. Quanta are run by
 //! the calling thread alone. An event that isn't done leaves all as it was, the deeds of the last one too.
-ghost use Rattle.std.specs.Prelude.{◌≡◌, ◌<◌, ◌≤◌, true, is_some, Some, None, List, IfOk, MatchOption, OnErr, IsErrOf, length, slice_get};
+ghost use Rattle.std.specs.Prelude.{◌≡◌, ◌<◌, ◌≤◌, true, is_some, Some, None, List, IfOk, MatchOption, OnOk, OnErr, IsErrOf, length, slice_get};
 ghost use Rattle.mh_model.specs.declared.deed.Deed as deeds;
 ghost use Rattle.mh_model.specs.declared.command.Control.TheVariants as controls;
-ghost use Rattle.mh_model.specs.Limits.{most_entries};
+ghost use Rattle.mh_model.specs.Limits.{most_events};
 ghost use Rattle.mh_model.specs.Machine as model;
 ghost use Rattle.mh_script.specs.OfMachine.Running.{Does, MayAskForMemory};
 ghost use Rattle.mh_script.specs.OfMachine.Stop.{Stop};
@@ -19,6 +19,7 @@ use mh_model::deed::Deed;
 use mh_model::limits::MOST_EVENTS;
 use mh_model::memory::NoMemory;
 use mh_model::reply::Reply;
+use mh_model::report::Report;
 use mh_script::mh_machine::machine::{Machine, Stop};
 use mh_script::mh_scan::scan::OneScan;
 use std::alloc::Global;
@@ -80,7 +81,8 @@ fn units_since(before: Counts, machine: &Machine) -> UnitNumbers
 }
 
 impl CollectingMachine {
-    ghost use Rattle.mh_embed.specs.Drivers.{Collecting};
+    ghost use Rattle.mh_embed.specs.Drivers.{Collecting, Forgetting, Reserving};
+    ghost use Rattle.mh_trace_laws.specs.Forgetting.{KeepsPromise};
 
     /// The machine of a configuration before its first event.
     pub fn open(alloc: Global, config: Config) -> Result<CollectingMachine, NoMemory>
@@ -110,7 +112,7 @@ impl CollectingMachine {
         ensures units { self.new.units ≡ self.old.units }
         ensures tells { self.new.tells ≡ self.old.tells }
         ensures kept { OnErr result (self.new ≡ self.old) }
-        ensures full { IsErrOf result Stop.HistoryFull → self.old.machine.done ≡ most_entries }
+        ensures full { IsErrOf result Stop.HistoryFull → self.old.machine.done ≡ most_events }
         ensures memory { IsErrOf result Stop.NoMemory → MayAskForMemory self.old.machine.room event }
     {
         let mut scanner = OneScan::new(self.alloc);
@@ -126,7 +128,7 @@ impl CollectingMachine {
         ensures units { self.new.units ≡ self.old.units }
         ensures tells { self.new.tells ≡ self.old.tells }
         ensures kept { OnErr result (self.new ≡ self.old) }
-        ensures full { IsErrOf result Stop.HistoryFull → self.old.machine.done ≡ most_entries }
+        ensures full { IsErrOf result Stop.HistoryFull → self.old.machine.done ≡ most_events }
         ensures memory { IsErrOf result Stop.NoMemory → MayAskForMemory self.old.machine.room event }
     {
         let reply = self.machine.step_told(event, &mut self.next)?;
@@ -136,12 +138,12 @@ impl CollectingMachine {
     }
 
     /// Does an event.
-    #[tactic(auto, unfolding(mh_model::specs::Limits::most_entries))]
+    #[tactic(auto, unfolding(mh_model::specs::Limits::most_events))]
     pub fn event(&mut self, event: Event) -> Result<Reply, Stop>
         ensures done { IfOk result (λ reply. Collecting self.old event reply self.new) }
         ensures kept { OnErr result (self.new ≡ self.old) }
-        ensures full { IsErrOf result Stop.HistoryFull → self.old.machine.done ≡ most_entries }
-        ensures room { IsErrOf result Stop.NoMemory → self.old.machine.done < most_entries }
+        ensures full { IsErrOf result Stop.HistoryFull → self.old.machine.done ≡ most_events }
+        ensures room { IsErrOf result Stop.NoMemory → self.old.machine.done < most_events }
         ensures memory { IsErrOf result Stop.NoMemory → MayAskForMemory self.old.machine.room event }
     {
         if self.machine.done() >= MOST_EVENTS {
@@ -206,5 +208,28 @@ impl CollectingMachine {
         ensures { result ≡ (model.control_step self.now.machine.machine controls.Left).reply }
     {
         Reply::Left(self.machine.heap().quanta_left())
+    }
+    /// Makes room for so many events. Deeds that are kept ask for memory of their own.
+    pub fn reserve(&mut self, events: usize) -> Result<(), NoMemory>
+        ensures done { OnOk result (Reserving events self.old self.new) }
+        ensures err { OnErr result (self.new ≡ self.old) }
+    {
+        self.machine.reserve(events)
+    }
+
+    /// Forgets its trace.
+    pub fn forget(&mut self)
+        ensures { Forgetting self.old self.new }
+    {
+        self.machine.forget();
+    }
+
+    /// The report of its trace since that was last forgotten. It is no event, and keeps the promise of the configuration.
+    pub fn report(&mut self, window: u64) -> Report
+        ensures report { result ≡ model.report_on self.old.machine.machine.heap.config self.old.machine.machine.trace window }
+        ensures promise { KeepsPromise self.old.machine.machine.heap.config result }
+        ensures kept { self.new ≡ self.old }
+    {
+        self.machine.report(window)
     }
 }

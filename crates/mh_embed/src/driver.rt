@@ -4,8 +4,8 @@ ghost use Rattle.mh_embed.specs.declared.driver.Driver.TheVariants as driven;
 ghost use Rattle.mh_embed.specs.Driving.{IsUndone, Takes};
 
 use crate::collecting::CollectingMachine;
-use crate::growing::GrowingWorld;
 use crate::status::Status;
+use mh_live::growing::GrowingWorld;
 use mh_model::command::Event;
 use mh_model::reply::Reply;
 use mh_script::mh_machine::machine::Stop;

@@ -10,16 +10,17 @@ use crate::collecting::CollectingMachine;
 use crate::deeds::deed_numbers;
 use crate::driver::Driver;
 use crate::events::event_of;
-use crate::growing::GrowingWorld;
 use crate::numbers::{DeedNumbers, EventNumbers, ItemNumbers, ReplyNumbers, UnitNumbers};
 use crate::replied::Replied;
 use crate::shown::reply_numbers;
 use crate::status::Status;
+use mh_live::growing::GrowingWorld;
 use mh_live::mh_text::line::{Line, line_of};
 use mh_live::names::Names;
 use mh_model::command::Event;
 use mh_model::config::Config;
 use mh_model::memory::NoMemory;
+use mh_model::reply::Reply;
 use std::alloc::Global;
 use std::marker::Model;
 
@@ -51,7 +52,7 @@ pub fn without_newline(line: &[u8]) -> &[u8]
 
 impl Embedded {
     ghost use Rattle.mh_embed.specs.Driving.{first_driven, first_world_driven};
-    ghost use Rattle.mh_embed.specs.Endings.{AnswerEnds, DeedEnds, EventEnds, ItemEnds, JudgeEnds, LineEnds, ReplyEnds, SeeEnds, StepEnds, TellEnds, TextEnds, UnitsEnd};
+    ghost use Rattle.mh_embed.specs.Endings.{AnswerEnds, DeedEnds, EventEnds, ForgetEnds, ItemEnds, JudgeEnds, LineEnds, ReplyEnds, ReportEnds, ReserveEnds, SeeEnds, StepEnds, TellEnds, TextEnds, UnitsEnd};
 
     /// The machine of a configuration before its first event.
     pub fn open(alloc: Global, config: Config) -> Result<Embedded, NoMemory>
@@ -220,6 +221,41 @@ impl Embedded {
             return Status::IsWorld;
         };
         *shown = reply_numbers(&machine.left());
+        Status::Done
+    }
+    /// Shows the report of the trace since it was last forgotten, for windows of this length.
+    pub fn see_report(&mut self, window: u64, shown: &mut ReplyNumbers) -> Status
+        ensures ends { ReportEnds self.old.driver window shown.old shown.new result }
+        ensures kept { self.new ≡ self.old }
+    {
+        let Driver::Collects(machine) = &mut self.driver else {
+            return Status::IsWorld;
+        };
+        *shown = reply_numbers(&Reply::Report(machine.report(window)));
+        Status::Done
+    }
+
+    /// Makes room for so many events, none of which then asks for memory, unless it is a dump.
+    pub fn reserve(&mut self, events: usize) -> Status
+        ensures { ReserveEnds self.old events self.new result }
+    {
+        let Driver::Collects(machine) = &mut self.driver else {
+            return Status::IsWorld;
+        };
+        match machine.reserve(events) {
+            Ok(()) => Status::Done,
+            Err(NoMemory) => Status::NoMemory,
+        }
+    }
+
+    /// Forgets the trace, from which reports count on then.
+    pub fn forget(&mut self) -> Status
+        ensures { ForgetEnds self.old self.new result }
+    {
+        let Driver::Collects(machine) = &mut self.driver else {
+            return Status::IsWorld;
+        };
+        machine.forget();
         Status::Done
     }
 }

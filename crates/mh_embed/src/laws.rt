@@ -1,5 +1,8 @@
-//! Laws of machines behind handles: a line is answered as in a run line by line, and each event has numbers.
-ghost use Rattle.mh_embed.specs.Laws.{EventsHaveNumbers, LinesAreTurns};
+//! Laws of machines and worlds behind handles: a line is answered as in a run line by line, each event has numbers, and
+//! memory is refused to no event for which there is room.
+ghost use Rattle.mh_embed.specs.Laws.{EventsHaveNumbers, LinesAreTurns, ReservedEventsAreNotRefusedMemory};
+
+use mh_script::mh_machine::reserved::reserved_events_ask_for_no_memory;
 
 /// A line whose event is done is answered as in a run line by line.
 pub fn lines_are_turns()
@@ -10,3 +13,11 @@ pub fn lines_are_turns()
 pub fn events_have_numbers()
     ensures { EventsHaveNumbers }
 {}
+
+/// Once there is room for some events, memory is refused to none of the next so many, but for dumps; and so to none of so
+/// many after each time that the trace is forgotten.
+pub fn reserved_events_are_not_refused_memory()
+    ensures { ReservedEventsAreNotRefusedMemory }
+{
+    reserved_events_ask_for_no_memory();
+}

@@ -11,7 +11,6 @@ pub mod deeds;
 pub mod driver;
 pub mod embedded;
 pub mod events;
-pub mod growing;
 mod judging;
 pub mod laws;
 pub mod numbers;

@@ -48,7 +48,7 @@ fn fault_of<E: TextEntry>(
     requires wrong { machine.old.done ≢ most_entries → ¬ E.fits machine.old.machine entry }
     ensures { IfOk result (IsFaultAfter (E.is_wrong machine.old.machine) machine.old.done entry) }
 {
-    if machine.is_full() {
+    if !machine.has_history_room() {
         return Ok(EntryFault::TooMany);
     }
     let right = measure(machine, entry.event(), scanner)?;

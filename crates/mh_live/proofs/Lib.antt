@@ -3,3 +3,4 @@ pub mod TurnLemmas
 pub mod FeedLemmas
 pub mod LineTurns
 pub mod RunAnswers
+pub mod WorldLemmas

@@ -1,11 +1,11 @@
 -- The turn of a line by what it says.
 use Rattle.std.proofs.Common.{◌≡◌, ◌∙◌, ◌≤◌, ◌<◌, ℕ, if◌then◌else◌, ◌&&◌, ◌||◌, nat_lt, Bool, true, false, Option, Some, None, List, [], ◌∷◌, length, refl, sym, ap, subst, arith}
-use Rattle.std.specs.Prelude.{codes, Result, Ok, Err, IfOk}
-use Rattle.std.specs.Result.{is_err}
+use Rattle.std.specs.Prelude.{codes, is_none}
 use Rattle.std.proofs.lemmas.Bool.{false≢true}
 use Rattle.std.proofs.lemmas.Bool.{and_parts, lt-ltb, ltb-true}
 use Rattle.std.proofs.lemmas.Bool.Decides.{nat_tests}
 use Rattle.mh_model.specs.declared.command.Command.{Command}
+use Rattle.mh_model.specs.declared.command.Command.TheVariants as command
 use Rattle.mh_model.specs.declared.command.Control.{Control}
 use Rattle.mh_model.specs.declared.command.Event.{Event}
 use Rattle.mh_model.specs.declared.command.Event.TheVariants as event
@@ -14,17 +14,20 @@ use Rattle.std.specs.List.{list_all}
 use Rattle.mh_model.specs.Bytes.{Text, is_digit, is_letter, is_name, is_text, line_text, words}
 use Rattle.mh_model.specs.Forms.{command_of, control_of}
 use Rattle.mh_model.specs.declared.history.Version.TheVariants.{Two}
-use Rattle.mh_model.specs.Limits.{most_entries}
+use Rattle.mh_model.specs.Limits.{most_events}
 use Rattle.mh_model.specs.declared.command.Control.TheVariants as control
 use Rattle.mh_model.specs.declared.reply.Reply.{Reply}
 use Rattle.mh_model.specs.declared.reply.Reply.TheVariants as reply
-use Rattle.mh_model.specs.World.{says}
+use Rattle.mh_model.specs.World.{IsNew, never_full, refusal, says, sight_of}
 use Rattle.mh_model.specs.Machine.{Machine, control_step, dump_pages, event_step, first_machine}
 use Rattle.mh_model.specs.Replies.{bad_line_text, reply_text}
 use Rattle.mh_model.specs.Script.{Line, Blank, Calls, Asks, Wrong, asks, calls, config_words, is_blank, line_of, line_words, session_number, with_name}
 use Rattle.mh_script.specs.OfMachine.Running.{Running, Does, MayAskForMemory, first_running}
-use Rattle.mh_live.specs.Answers.{Done, Full, IsAnsweredOrNotDone, Starved, starved_line}
-use Rattle.mh_model.specs.Live.{Live, IsTurn, Runs, Taken, Turn, Waits, event_turn, needs_memory, line_turn, turn}
+use Rattle.mh_script.specs.OfMachine.Stop.{Stop}
+use Rattle.mh_script.specs.OfMachine.Stop.TheVariants.{HistoryFull, NoMemory}
+use Rattle.mh_live.specs.Answers.{Done, Full, FullWorld, Grew, IsAnsweredOrNotDone, IsAnsweredOrNotGrown, Starved, StarvedWorld, full_line, starved_line, uncollected_line}
+use Rattle.mh_live.specs.Worlds.{Grown}
+use Rattle.mh_model.specs.Live.{Live, Grows, IsTurn, Runs, Taken, Turn, Waits, event_turn, makes_object, needs_memory, line_turn, turn, world_turn}
 use Rattle.mh_model.specs.Live.{Starved as starved}
 use Rattle.mh_script.specs.OfReasons.Reasons.{IsWrong}
 use Rattle.mh_live.specs.Heard.{is_configured}
@@ -52,6 +55,7 @@ blank_turn : (n : ℕ) (live : Live) (line : Text) → is_blank line ≡ true �
 unfolding turn
 blank_turn n Waits line blank = rw blank refl
 blank_turn n (Runs machine names count) line blank = rw blank refl
+blank_turn n (Grows world names count) line blank = rw blank refl
 
 refused_turn : (n : ℕ) (line : Text) → is_blank line ≡ false → config_words (words line) ≡ None → turn n Waits line ≡ record { text = line_text (bad_line_text n); live = Waits }
 unfolding turn
@@ -88,6 +92,7 @@ calls-wrong e = cc
 pub blank_right : (live : Live) (line : Text) → is_blank line ≡ true → ¬ IsWrong (is_configured live) line
 blank_right Waits line blank wrong = false≢true (sym wrong.0 ∙ blank)
 blank_right (Runs machine names count) line blank wrong = blank-wrong (rw blank at wrong)
+blank_right (Grows world names count) line blank wrong = blank-wrong (rw blank at wrong)
 
 pub config_right : (line : Text) (config : Config) → config_words (words line) ≡ Some config → ¬ IsWrong false line
 config_right line config found wrong = some-none (sym found ∙ wrong.1) where
@@ -135,8 +140,8 @@ module _ (n : ℕ) (old : Running) (names : List Text) (line : Text) where
 
     pub event_runs : (new : Running) (text : Text) (is_done : Bool) (after : List Text) → (MayAskForMemory old.room event → needs_memory says ≡ true) → IsAnsweredOrNotDone old event text new is_done → after ≡ (if is_done then seen else names)
         → IsTurn n before line (record { text = text; live = Runs new.machine after new.done })
-    event_runs new text _ after has (Done reply below does same) named = taken n before line _ (by_event ∙ rw (lt-ltb old.done most_entries below, does.step, same, does.done, named) refl)
-    event_runs new text _ after has (Full full same kept) named = taken n before line _ (by_event ∙ rw (not_below old.done most_entries full, same, kept, named) refl)
+    event_runs new text _ after has (Done reply below does same) named = taken n before line _ (by_event ∙ rw (lt-ltb old.done most_events below, does.step, same, does.done, named) refl)
+    event_runs new text _ after has (Full full same kept) named = taken n before line _ (by_event ∙ rw (not_below old.done most_events full, same, kept, named) refl)
     event_runs new text _ after has (Starved asks same kept) named = rw (same, kept, named) (starved (rw is (has asks)))
 
   pub asks_runs : (control : Control) (new : Running) (text : Text) (is_done : Bool) → line_of line ≡ Asks control → IsAnsweredOrNotDone old (event.Control control) text new is_done
@@ -150,16 +155,71 @@ module _ (n : ℕ) (old : Running) (names : List Text) (line : Text) where
       → after ≡ (if is_done then with_name names name else names) → IsTurn n before line (record { text = text; live = Runs new.machine after new.done })
   calls_runs name command new text is_done after is = event_runs (Calls name command) is (event.Session (session_number names name) command) (with_name names name) refl new text is_done after (λ _. refl)
 
+-- In a world ------------------------------------------------------------------------------------
+
+not_under : (n most : ℕ) → most ≤ n → nat_lt n most ≡ false
+not_under n most above = grind (arith, nat_tests)
+
+module _ (n : ℕ) (old : Grown) (names : List Text) (line : Text) where
+  abbrev world_before : Live
+  world_before = Grows old.world names old.done
+
+  by_world_line : (says : Line) → line_of line ≡ says → turn n world_before line ≡ world_turn n old.world names old.done says
+  unfolding turn
+  by_world_line says is = ap (world_turn n old.world names old.done) is
+
+  pub blank_grows : (text : Text) → line_of line ≡ Blank → text ≡ [] → IsTurn n world_before line (record { text = text; live = world_before })
+  blank_grows text is none = taken n world_before line _ (rw none (by_world_line Blank is))
+
+  pub wrong_grows : (text : Text) → line_of line ≡ Wrong → text ≡ line_text (bad_line_text n) → IsTurn n world_before line (record { text = text; live = world_before })
+  wrong_grows text is same = taken n world_before line _ (rw same (by_world_line Wrong is))
+
+  pub asks_grows : (control : Control) (text : Text) → line_of line ≡ Asks control → text ≡ uncollected_line → IsTurn n world_before line (record { text = text; live = world_before })
+  asks_grows control text is same = taken n world_before line _ (rw same (by_world_line (Asks control) is))
+
+  -- memory is refused for a new object alone
+  makes : (name : Text) (said : Command) → IsNew said → refusal (sight_of never_full old.world) (session_number names name) said ≡ None → makes_object old.world names (Calls name said) ≡ true
+  makes name (command.New slot references numbers) new none = ap is_none none
+  makes name (command.Get slot source field) new none = absurd new
+  makes name (command.Put slot field value) new none = absurd new
+  makes name (command.Copy slot source) new none = absurd new
+  makes name (command.Clear slot) new none = absurd new
+  makes name (command.Read slot index) new none = absurd new
+  makes name (command.Write slot index number) new none = absurd new
+  makes name (command.Same left right) new none = absurd new
+  makes name (command.Shape slot) new none = absurd new
+  makes name (command.Post board slot) new none = absurd new
+  makes name (command.Take slot board) new none = absurd new
+  makes name command.End new none = absurd new
+
+  pub calls_grows : (name : Text) (said : Command) (new : Grown) (text : Text) (is_done : Bool) (after : List Text) → line_of line ≡ Calls name said → IsAnsweredOrNotGrown old (session_number names name) said text new is_done
+      → after ≡ (if is_done then with_name names name else names) → IsTurn n world_before line (record { text = text; live = Grows new.world after new.done })
+  calls_grows name said new text _ after is (Grew given grows same) named =
+      taken n world_before line _ (by_world_line (Calls name said) is ∙ rw (lt-ltb old.done most_events grows.room, grows.does, same, grows.done, named) refl)
+  calls_grows name said new text _ after is (FullWorld full same kept) named = taken n world_before line _ (by_world_line (Calls name said) is ∙ rw (not_under old.done most_events full, same, kept, named) refl)
+  calls_grows name said new text _ after is (StarvedWorld makes_new none same kept) named = rw (same, kept, named) (starved (rw is (makes name said makes_new none)))
+
 -- A dump's reply is what the machine shows, whatever step it is asked in ---------------------------
 
 dump_reply : (machine new : Machine) (given : Reply) → event_step machine (event.Control control.Dump) ≡ says given new → reply.Dump (dump_pages 0 machine.heap.collector.table) ≡ given
 unfolding event_step control_step
 dump_reply machine new given e = ap (λ answer. answer.reply) e
 
-pub dump_done : {E : Type 0} (old new : Running) (result : Result Reply E) (text : Text) → old.done < most_entries → IfOk result (λ given. Does old (event.Control control.Dump) given new) → is_err result ≡ false
+pub dump_done : (old new : Running) (given : Reply) (text : Text) → old.done < most_events → Does old (event.Control control.Dump) given new
     → text ≡ line_text (reply_text (reply.Dump (dump_pages 0 old.machine.heap.collector.table))) → IsAnsweredOrNotDone old (event.Control control.Dump) text new true
-dump_done old new (Ok given) text below does ok is = Done given below does (is ∙ ap (λ r. line_text (reply_text r)) (dump_reply old.machine new.machine given does.step))
-dump_done old new (Err stop) text below does ok is = absurd (false≢true (sym ok))
+dump_done old new given text below does is = Done given below does (is ∙ ap (λ r. line_text (reply_text r)) (dump_reply old.machine new.machine given does.step))
+
+-- An event that isn't done -------------------------------------------------------------------------
+
+pub undone : (old new : Running) (event : Event) (text : Text) (stop : Stop) → (stop ≡ HistoryFull → old.done ≡ most_events) → (stop ≡ NoMemory → MayAskForMemory old.room event) → (stop ≡ HistoryFull → text ≡ full_line) → (stop ≡ NoMemory → text ≡ starved_line) → new ≡ old
+    → IsAnsweredOrNotDone old event text new false
+undone old new event text HistoryFull full memory says_full says_memory kept = Full (full refl) (says_full refl) kept
+undone old new event text NoMemory full memory says_full says_memory kept = Starved (memory refl) (says_memory refl) kept
+
+pub ungrown : (old new : Grown) (who : ℕ) (command : Command) (text : Text) (stop : Stop) → (stop ≡ HistoryFull → most_events ≤ old.done) → (stop ≡ NoMemory → IsNew command) → (stop ≡ NoMemory → refusal (sight_of never_full old.world) who command ≡ None)
+    → (stop ≡ HistoryFull → text ≡ full_line) → (stop ≡ NoMemory → text ≡ starved_line) → new ≡ old → IsAnsweredOrNotGrown old who command text new false
+ungrown old new who command text HistoryFull full memory asked says_full says_memory kept = FullWorld (full refl) (says_full refl) kept
+ungrown old new who command text NoMemory full memory asked says_full says_memory kept = StarvedWorld (memory refl) (asked refl) (says_memory refl) kept
 
 -- Names ------------------------------------------------------------------------------------------
 

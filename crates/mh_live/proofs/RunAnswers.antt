@@ -6,7 +6,7 @@ use Rattle.mh_model.specs.declared.command.Event.{Event}
 use Rattle.mh_model.specs.declared.command.Event.TheVariants as event
 use Rattle.mh_model.specs.declared.config.Config.{Config}
 use Rattle.mh_model.specs.Bytes.{Text, cut_after, line_text, words}
-use Rattle.mh_model.specs.Limits.{most_entries}
+use Rattle.mh_model.specs.Limits.{most_entries, most_events}
 use Rattle.mh_model.specs.Machine.{Machine, event_step, first_machine, machine_replies}
 use Rattle.mh_model.specs.Output.{output, output_of}
 use Rattle.mh_model.specs.Replies.{replies_text, reply_text}
@@ -30,9 +30,14 @@ begins first (Means later) events e = record { later = later; is = refl; whole =
   means-same : Means (first ∷ later) ≡ Means events → first ∷ later ≡ events
   means-same e = cc
 
+-- a history is shorter than what a machine does
+fewer : {count : ℕ} → count < most_entries → count < most_events
+unfolding most_entries most_events
+fewer below = omega (arith, below)
+
 -- An event of a line, and then the rest: its reply, and then the replies to them
-event_first : (machine : Machine) (names seen : List Text) (count : ℕ) (first : Event) → count < most_entries → event_turn machine names count seen first ≡ record { text = line_text (reply_text (event_step machine first).reply); live = Runs (event_step machine first).state seen (suc count) }
-event_first machine names seen count first below = rw (lt-ltb count most_entries below) refl
+event_first : (machine : Machine) (names seen : List Text) (count : ℕ) (first : Event) → count < most_events → event_turn machine names count seen first ≡ record { text = line_text (reply_text (event_step machine first).reply); live = Runs (event_step machine first).state seen (suc count) }
+event_first machine names seen count first below = rw (lt-ltb count most_events below) refl
 
 replies_first : (machine : Machine) (first : Event) (later : List Event) → replies_text (machine_replies machine (first ∷ later)) ≡ line_text (reply_text (event_step machine first).reply) ++ replies_text (machine_replies (event_step machine first).state later)
 unfolding machine_replies
@@ -69,7 +74,7 @@ after (line ∷ lines) n machine names count rest events e few = by_line (λ m n
   by_event later first seen is e =
       let all = begins first (events_from seen (suc n) (map line_of lines) rest) events e in
       let count_is : suc (length all.later) ≡ length events = ap length all.whole in
-      let below : count < most_entries = omega (arith, few, count_is) in
+      let below : count < most_events = fewer (omega (arith, few, count_is)) in
       let rest_is = later (event_step machine first).state seen (suc count) all.later all.is (omega (arith, few, count_is)) in
       ap (live_then (suc n) lines rest) (is ∙ event_first machine names seen count first below)
       ∙ ap (λ (t : Text). line_text (reply_text (event_step machine first).reply) ++ t) rest_is
@@ -161,8 +166,8 @@ has_turns (line ∷ lines) n live rest =
 
 pub have_answers : TextsHaveAnswers
 unfolding live_output
-have_answers text =
-    let all = has_turns (cut_after 10 text).pieces 1 Waits (cut_after 10 text).rest in
+have_answers opened text =
+    let all = has_turns (cut_after 10 text).pieces 1 opened (cut_after 10 text).rest in
     record {
       answers = all.answers;
       after = all.after_them;

@@ -2,7 +2,7 @@
 use Rattle.std.specs.Prelude.{◌≡◌, ℕ, suc, Option, List, [], ◌∷◌, ◌++◌, length, Result, IfErr, OnOk, IsErrOf}
 use Rattle.std.specs.Io.KnownBytes.{Appends, Consumes, IsAtEnd}
 use Rattle.mh_model.specs.Bytes.{Text, cut_after}
-use Rattle.mh_model.specs.Live.{Live, Turn, Waits, IsTurn, IsLive, unended_text}
+use Rattle.mh_model.specs.Live.{Live, Turn, IsTurn, IsLive, unended_text}
 use Rattle.mh_text.specs.Stream.{ConsumesSome}
 use Rattle.mh_live.specs.declared.feed.Feed.{Feed}
 use Rattle.mh_live.specs.Heard.{AreHeard, IsHeard, IsLiveHeard}
@@ -14,19 +14,19 @@ use Rattle.mh_script.specs.declared.fault.WriteError.TheVariants as cause
 use Rattle.mh_script.specs.Run.{Device}
 use Rattle.mh_script.specs.Texts.{Blames}
 
--- the whole lines of a text were answered and the refused ones told, and what follows the last of them is kept
-pub record HasAnswered (Hears : List LineRefusal → Type 0) (text : Text) (old new : Option Text) (number : ℕ) (live : Live) (begun : Text) : Type 0 where
+-- the whole lines of a text were answered and the refused ones told, and what follows the last of them is kept. `opened` is where the run stood before the first line
+pub record HasAnswered (opened : Live) (Hears : List LineRefusal → Type 0) (text : Text) (old new : Option Text) (number : ℕ) (live : Live) (begun : Text) : Type 0 where
   pub answers : Text
   pub refusals : List LineRefusal
-  pub turns : AreHeard 1 Waits (cut_after 10 text).pieces refusals answers live
+  pub turns : AreHeard 1 opened (cut_after 10 text).pieces refusals answers live
   pub numbered : number ≡ suc (length (cut_after 10 text).pieces)
   pub kept : (cut_after 10 text).rest ≡ begun
   pub wrote : Appends old new answers
   pub heard : Hears refusals
 
 -- the same by what a feed has
-abbrev pub IsFed : (List LineRefusal → Type 0) → Text → Option Text → Option Text → Feed → Type 0
-IsFed Hears text first new feed = HasAnswered Hears text first new feed.number feed.live feed.begun.items
+abbrev pub IsFed : Live → (List LineRefusal → Type 0) → Text → Option Text → Option Text → Feed → Type 0
+IsFed opened Hears text first new feed = HasAnswered opened Hears text first new feed.number feed.live feed.begun.items
 
 -- Faults -----------------------------------------------------------------------------------------
 
@@ -49,14 +49,14 @@ BeginsAnswer n live [] rest begun = (left : Text) × (begun ++ left ≡ unended_
 BeginsAnswer n live (line ∷ lines) rest begun = (turn : Turn) × IsTurn n live line turn × ((left : Text) × (begun ++ left ≡ turn.text))
 
 -- The first lines of a text were answered, and the refused ones of them heard of. Of the answer to the next line a prefix was written that may stand there; that line was not heard of
-pub record AnswersSome (Hears : List LineRefusal → Type 0) (May : Text → Type 0) (text : Text) (old new : Option Text) : Type 0 where
+pub record AnswersSome (opened : Live) (Hears : List LineRefusal → Type 0) (May : Text → Type 0) (text : Text) (old new : Option Text) : Type 0 where
   pub lines : List Text
   pub later : List Text
   pub parts : (cut_after 10 text).pieces ≡ lines ++ later
   pub answers : Text
   pub refusals : List LineRefusal
   pub after : Live
-  pub turns : AreHeard 1 Waits lines refusals answers after
+  pub turns : AreHeard 1 opened lines refusals answers after
   pub begun : Text
   pub begins : BeginsAnswer (suc (length lines)) after later (cut_after 10 text).rest begun
   pub may : May begun
@@ -86,38 +86,38 @@ pub record TurnsPartly (old : Feed) (written written' : Option Text) (error : Wr
 -- Runs -------------------------------------------------------------------------------------------
 
 -- a source was read to its end, each line answered, and each refused one told
-pub record AnswersAll (Hears : List LineRefusal → Type 0) (source source' sink sink' : Option Text) : Type 0 where
+pub record AnswersAll (opened : Live) (Hears : List LineRefusal → Type 0) (source source' sink sink' : Option Text) : Type 0 where
   pub text : Text
   pub read : Consumes source source' text
   pub ended : IsAtEnd source'
   pub written : Text
   pub refusals : List LineRefusal
-  pub live : IsLive text written
-  pub told : IsLiveHeard text written refusals
+  pub live : IsLive opened text written
+  pub told : IsLiveHeard opened text written refusals
   pub wrote : Appends sink sink' written
   pub heard : Hears refusals
 
 -- some bytes of a source were read before this fault, and some of the lines in them answered and told
-pub record AnswersFront (Hears : List LineRefusal → Type 0) (source source' sink sink' : Option Text) (fault : ScriptFault) : Type 0 where
+pub record AnswersFront (opened : Live) (Hears : List LineRefusal → Type 0) (source source' sink sink' : Option Text) (fault : ScriptFault) : Type 0 where
   pub text : Text
   pub read : Consumes source source' text
-  pub some : AnswersSome Hears (MayEndWith fault) text sink sink'
+  pub some : AnswersSome opened Hears (MayEndWith fault) text sink sink'
 
 -- some bytes of a source were read, each whole line in them answered, and each refused one told
-pub record AnswersWhole (Hears : List LineRefusal → Type 0) (source source' sink sink' : Option Text) : Type 0 where
+pub record AnswersWhole (opened : Live) (Hears : List LineRefusal → Type 0) (source source' sink sink' : Option Text) : Type 0 where
   pub text : Text
   pub read : Consumes source source' text
   pub answers : Text
   pub refusals : List LineRefusal
   pub after : Live
-  pub turns : AreHeard 1 Waits (cut_after 10 text).pieces refusals answers after
+  pub turns : AreHeard 1 opened (cut_after 10 text).pieces refusals answers after
   pub wrote : Appends sink sink' answers
   pub heard : Hears refusals
 
 -- Lines of a source were answered as they came and the refused ones told, and how that ended
-pub record IsLiveRun (Hears : List LineRefusal → Type 0) (source source' sink sink' : Device) (ended : Result Unit ScriptFault) : Type 0 where
-  pub answered : OnOk ended (AnswersAll Hears source.bytes source'.bytes sink.bytes sink'.bytes)
-  pub begun : IfErr ended (AnswersFront Hears source.bytes source'.bytes sink.bytes sink'.bytes)
-  pub prompt : IsErrOf ended Read → AnswersWhole Hears source.bytes source'.bytes sink.bytes sink'.bytes
+pub record IsLiveRun (opened : Live) (Hears : List LineRefusal → Type 0) (source source' sink sink' : Device) (ended : Result Unit ScriptFault) : Type 0 where
+  pub answered : OnOk ended (AnswersAll opened Hears source.bytes source'.bytes sink.bytes sink'.bytes)
+  pub begun : IfErr ended (AnswersFront opened Hears source.bytes source'.bytes sink.bytes sink'.bytes)
+  pub prompt : IsErrOf ended Read → AnswersWhole opened Hears source.bytes source'.bytes sink.bytes sink'.bytes
   pub memory : IsErrOf ended NoMemory → ConsumesSome source.bytes source'.bytes
   pub blames : Blames source.failures source'.failures sink.failures sink'.failures ended

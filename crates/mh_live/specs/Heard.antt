@@ -2,16 +2,17 @@
 use Rattle.std.specs.Prelude.{◌≡◌, ℕ, suc, Bool, true, false, Option, Some, None, List, [], ◌∷◌, ◌++◌, length}
 use Rattle.std.specs.Option.{option_to_list}
 use Rattle.mh_model.specs.Bytes.{Text, cut_after}
-use Rattle.mh_model.specs.Live.{Live, Turn, Waits, Runs, IsTurn, unended_text}
+use Rattle.mh_model.specs.Live.{Live, Turn, Waits, Runs, Grows, IsTurn, unended_text}
 use Rattle.mh_script.specs.OfReasons.LineReason.{LineReason}
 use Rattle.mh_script.specs.OfReasons.ScriptReason.TheVariants.{Line, NoNewline}
 use Rattle.mh_script.specs.OfReasons.Reasons.{IsLineReason, IsWrong}
 use Rattle.mh_script.specs.declared.end.LineRefusal.{LineRefusal}
 
--- whether the configuration has come
+-- whether the configuration has come; a world waits for none
 abbrev pub is_configured : Live → Bool
 is_configured Waits = false
 is_configured (Runs machine names count) = true
+is_configured (Grows world names count) = true
 
 -- what is wrong with a line before or after the configuration; none if it isn't outside the grammar
 abbrev pub IsWhy : Bool → Text → Option LineReason → Type 0
@@ -37,11 +38,11 @@ unended_refusal n [] = None
 unended_refusal n (byte ∷ bytes) = Some (record { line = n; reason = NoNewline })
 
 -- The answers to a text of lines, to its end, and all that is heard of them
-pub record IsLiveHeard (text written : Text) (refusals : List LineRefusal) : Type 0 where
+pub record IsLiveHeard (opened : Live) (text written : Text) (refusals : List LineRefusal) : Type 0 where
   pub answers : Text
   pub heard : List LineRefusal
   pub after : Live
-  pub turns : AreHeard 1 Waits (cut_after 10 text).pieces heard answers after
+  pub turns : AreHeard 1 opened (cut_after 10 text).pieces heard answers after
   pub whole : written ≡ answers ++ unended_text (suc (length (cut_after 10 text).pieces)) (cut_after 10 text).rest
   pub all : refusals ≡ heard ++ option_to_list (unended_refusal (suc (length (cut_after 10 text).pieces)) (cut_after 10 text).rest)
 

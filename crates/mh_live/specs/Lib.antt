@@ -4,3 +4,4 @@ pub mod Heard
 pub mod Laws
 pub mod OfMachine
 pub mod OfScript
+pub mod Worlds

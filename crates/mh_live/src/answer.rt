@@ -1,35 +1,35 @@
 //! An event of a line, and what it is answered.
 //!
 //! Memory that is refused for the event is answered `refused 9 no memory`, and then nothing is changed: the text of a
-//! dump is made before the dump is done. An event past the 1,000,000th is answered `refused 8 history full`, however
-//! many come. Contracts of this file alone say that it is refused only to an event that may ask for it
-//! (`MayAskForMemory` of `mh_machine`).
-ghost use Rattle.std.specs.Prelude.{◌≡◌, ◌<◌, [], ◌++◌, IfOk, OnOk};
+//! dump is made before the dump is done. An event past the last that a machine or a world does is answered
+//! `refused 8 history full`, however many come, and a control in a world `refused 11 no collector`. Contracts of this
+//! file alone say that it is refused only to an event that may ask for it (`MayAskForMemory` of `mh_machine`).
+ghost use Rattle.std.specs.Prelude.{◌≡◌, [], ◌++◌, IfOk, OnOk};
 ghost use Rattle.std.specs.String.{string_bytes};
 ghost use Rattle.mh_model.specs.Bytes.{line_text};
-ghost use Rattle.mh_model.specs.Limits.{most_entries};
 ghost use Rattle.mh_model.specs.Machine.{dump_pages};
 ghost use Rattle.mh_model.specs.Replies.{bad_line_text, reply_text};
 ghost use Rattle.mh_model.specs.declared.command.Control.TheVariants as control;
 ghost use Rattle.mh_model.specs.declared.command.Event.TheVariants as event;
 ghost use Rattle.mh_model.specs.declared.reply.Reply.TheVariants as reply;
-ghost use Rattle.mh_live.specs.Answers.{IsAnsweredOrNotDone, full_line, starved_line};
+ghost use Rattle.mh_live.specs.Answers.{IsAnsweredOrNotDone, IsAnsweredOrNotGrown, full_line, starved_line, uncollected_line};
+ghost use Rattle.mh_script.specs.OfMachine.Stop.{Stop};
 
-use mh_model::command::{Control, Event};
-use mh_model::limits::MOST_EVENTS;
+use crate::growing::GrowingWorld;
+use mh_model::command::{Command, Control, Event};
 use mh_model::memory::NoMemory;
 use mh_model::reply::Reply;
-use mh_script::mh_machine::machine::Machine;
+use mh_script::mh_machine::machine::{Machine, Stop};
 use mh_script::mh_scan::scan::Scanner;
 use mh_text::reply_line::push_reply_line;
 use std::alloc::Global;
 use std::fmt::Write;
 
-/// Answers an event after the last that a history has room for.
+/// Answers an event after the last of all.
 fn full(text: &mut String) -> Result<(), NoMemory>
-    requires { string_bytes text.old ≡ [] }
     ensures { OnOk result (string_bytes text.new ≡ full_line) }
 {
+    text.clear();
     text.push_str("refused 8 history full\n")?;
     Ok(())
 }
@@ -43,12 +43,32 @@ pub(crate) fn starved(text: &mut String) -> Result<(), NoMemory>
     Ok(())
 }
 
+/// Answers a line whose event wasn't done.
+fn not_done(stop: Stop, text: &mut String) -> Result<(), NoMemory>
+    ensures full { stop ≡ Stop.HistoryFull → OnOk result (string_bytes text.new ≡ full_line) }
+    ensures memory { stop ≡ Stop.NoMemory → OnOk result (string_bytes text.new ≡ starved_line) }
+{
+    match stop {
+        Stop::HistoryFull => full(text),
+        Stop::NoMemory => starved(text),
+    }
+}
+
 /// Answers a line that is outside the grammar.
 pub(crate) fn refused(number: u64, text: &mut String) -> Result<(), NoMemory>
     requires { string_bytes text.old ≡ [] }
     ensures { OnOk result (string_bytes text.new ≡ line_text (bad_line_text number)) }
 {
     writeln!(text, "refused 10 line {number}")?;
+    Ok(())
+}
+
+/// Answers a control in a world.
+pub(crate) fn uncollected(text: &mut String) -> Result<(), NoMemory>
+    requires { string_bytes text.old ≡ [] }
+    ensures { OnOk result (string_bytes text.new ≡ uncollected_line) }
+{
+    text.push_str("refused 11 no collector\n")?;
     Ok(())
 }
 
@@ -62,51 +82,52 @@ fn write_dump(alloc: Global, machine: &Machine, text: &mut String) -> Result<(),
 }
 
 /// Does a dump, whose text is made before it is done: so all is as it was if memory is refused for either.
-fn attempt_dump<S: Scanner>(
+fn answer_dump<S: Scanner>(
     alloc: Global,
     machine: &mut Machine,
     scanner: &mut S,
     text: &mut String,
 ) -> Result<bool, NoMemory>
-    requires room { machine.old.done < most_entries }
-    requires empty { string_bytes text.old ≡ [] }
+    requires { string_bytes text.old ≡ [] }
     ensures { IfOk result (IsAnsweredOrNotDone machine.old (event.Control control.Dump) (string_bytes text.new) machine.new) }
 {
     if write_dump(alloc, machine, text).is_err() {
         starved(text)?;
         return Ok(false);
     }
-    if machine
-        .step_in_room(Event::Control(Control::Dump), scanner)
-        .is_err()
-    {
-        starved(text)?;
-        return Ok(false);
+    match machine.step(Event::Control(Control::Dump), scanner) {
+        Ok(_) => Ok(true),
+        Err(stop) => {
+            not_done(stop, text)?;
+            Ok(false)
+        }
     }
-    Ok(true)
 }
 
-/// Does an event, unless memory is refused.
-fn attempt<S: Scanner>(
+/// Does another event.
+fn answer_other<S: Scanner>(
     machine: &mut Machine,
     event: Event,
     scanner: &mut S,
     text: &mut String,
 ) -> Result<bool, NoMemory>
-    requires room { machine.old.done < most_entries }
-    requires empty { string_bytes text.old ≡ [] }
+    requires { string_bytes text.old ≡ [] }
     ensures { IfOk result (IsAnsweredOrNotDone machine.old event (string_bytes text.new) machine.new) }
 {
-    let Ok(reply) = machine.step_in_room(event, scanner) else {
-        starved(text)?;
-        return Ok(false);
-    };
-    push_reply_line(text, &reply)?;
-    Ok(true)
+    match machine.step(event, scanner) {
+        Ok(reply) => {
+            push_reply_line(text, &reply)?;
+            Ok(true)
+        }
+        Err(stop) => {
+            not_done(stop, text)?;
+            Ok(false)
+        }
+    }
 }
 
-/// Does an event, unless the history is full or memory is refused, and gives the text its answer. Whether it was done.
-#[tactic(auto, unfolding(mh_model::specs::Limits::most_entries))]
+/// Does an event, unless the last of all was done or memory is refused, and gives the text its answer. Whether it was
+/// done.
 pub(crate) fn answer<S: Scanner>(
     alloc: Global,
     machine: &mut Machine,
@@ -117,12 +138,30 @@ pub(crate) fn answer<S: Scanner>(
     requires { string_bytes text.old ≡ [] }
     ensures { IfOk result (IsAnsweredOrNotDone machine.old event (string_bytes text.new) machine.new) }
 {
-    if machine.done() >= MOST_EVENTS {
-        full(text)?;
-        return Ok(false);
-    }
     match event {
-        Event::Control(Control::Dump) => attempt_dump(alloc, machine, scanner, text),
-        _ => attempt(machine, event, scanner, text),
+        Event::Control(Control::Dump) => answer_dump(alloc, machine, scanner, text),
+        _ => answer_other(machine, event, scanner, text),
+    }
+}
+
+/// Does a command in a world, as `answer` does an event.
+pub(crate) fn answer_in_world(
+    world: &mut GrowingWorld,
+    who: u8,
+    command: &Command,
+    text: &mut String,
+) -> Result<bool, NoMemory>
+    requires { string_bytes text.old ≡ [] }
+    ensures { IfOk result (IsAnsweredOrNotGrown world.old who command.now (string_bytes text.new) world.new) }
+{
+    match world.command(who, command) {
+        Ok(reply) => {
+            push_reply_line(text, &reply)?;
+            Ok(true)
+        }
+        Err(stop) => {
+            not_done(stop, text)?;
+            Ok(false)
+        }
     }
 }

@@ -17,7 +17,8 @@ ghost use Rattle.mh_model.specs.Bytes.{Text};
 ghost use Rattle.mh_text.specs.Stream.{ConsumesSome};
 ghost use Rattle.mh_live.specs.Feeding.{AnswersAll, AnswersFront, AnswersSome, AnswersWhole, IsFed, MayBegin, TakesTurn, TurnsPartly, WritesPrefix};
 ghost use Rattle.mh_live.specs.Heard.{HeardRefusal, refusal_of, unended_refusal};
-ghost use Rattle.mh_model.specs.Live.{Waits, unended_text};
+ghost use Rattle.mh_model.specs.Live as model;
+ghost use Rattle.mh_model.specs.Live.{unended_text};
 ghost use Rattle.mh_script.specs.Texts.{Blames};
 ghost use Rattle.std.specs.Io.KnownBytes.{Appends};
 
@@ -62,13 +63,13 @@ pub(crate) struct Feed {
 }
 
 impl Feed {
-    fn new(alloc: Global) -> Feed
-        ensures live { result.live ≡ Waits }
+    fn new(alloc: Global, live: Live) -> Feed
+        ensures live { result.live ≡ live }
         ensures number { result.number ≡ 1 }
         ensures begun { result.begun.items ≡ [] }
     {
         Feed {
-            live: Live::new(alloc),
+            live,
             number: 1,
             begun: Vec::new(alloc),
             answer: String::new(alloc),
@@ -114,10 +115,10 @@ impl Feed {
         listener: &mut L,
     ) -> Result<(), WriteError>
         requires { W.failures sink.old < 2 ^ 62 }
-        ensures done { OnOk result ((text : Text) (first : Option Text) (start : L) → IsFed (λ refusals. L.hears start refusals listener.old) text first (W.written sink.old) self.old
-            → IsFed (λ refusals. L.hears start refusals listener.new) (text ++ bytes.now) first (W.written sink.new) self.new) }
-        ensures begun { IfErr result (λ error. (text : Text) (first : Option Text) (start : L) → IsFed (λ refusals. L.hears start refusals listener.old) text first (W.written sink.old) self.old
-            → AnswersSome (λ refusals. L.hears start refusals listener.new) (MayBegin error) (text ++ bytes.now) first (W.written sink.new)) }
+        ensures done { OnOk result ((opened : model.Live) (text : Text) (first : Option Text) (start : L) → IsFed opened (λ refusals. L.hears start refusals listener.old) text first (W.written sink.old) self.old
+            → IsFed opened (λ refusals. L.hears start refusals listener.new) (text ++ bytes.now) first (W.written sink.new) self.new) }
+        ensures begun { IfErr result (λ error. (opened : model.Live) (text : Text) (first : Option Text) (start : L) → IsFed opened (λ refusals. L.hears start refusals listener.old) text first (W.written sink.old) self.old
+            → AnswersSome opened (λ refusals. L.hears start refusals listener.new) (MayBegin error) (text ++ bytes.now) first (W.written sink.new)) }
         ensures no_failure { OnOk result (W.failures sink.new ≡ W.failures sink.old) }
         ensures blamed { IsErrOf result WriteError.Device → W.failures sink.old < W.failures sink.new }
         ensures not_blamed { IsErrOf result WriteError.NoMemory → W.failures sink.new ≡ W.failures sink.old }
@@ -166,12 +167,13 @@ impl Feed {
     }
 }
 
-/// Reads lines to the end of the source. Those whose ends have come are answered before more bytes are read. The listener
-/// hears of a line outside the grammar after its answer was written, and before the next line is answered. At most `workers`
+/// Reads lines to the end of the source, for a run that has answered none. Those whose ends have come are answered before
+/// more bytes are read. The listener hears of a line outside the grammar after its answer was written, and before the next line is answered. At most `workers`
 /// threads scan at a time. Neither their number nor the hook changes an answer.
 pub fn run_live<R: Threads, S: Source, W: Sink, L: Listener, G: CrewGate>(
     rt: &R,
     alloc: Global,
+    live: Live,
     source: &mut S,
     sink: &mut W,
     listener: &mut L,
@@ -181,16 +183,16 @@ pub fn run_live<R: Threads, S: Source, W: Sink, L: Listener, G: CrewGate>(
     requires workers { (0 < workers) × (workers ≤ 64) }
     requires source_count { S.failures source.old < 2 ^ 62 }
     requires sink_count { W.failures sink.old < 2 ^ 62 }
-    ensures answered { OnOk result (AnswersAll (λ refusals. L.hears listener.old refusals listener.new) (S.rest source.old) (S.rest source.new) (W.written sink.old) (W.written sink.new)) }
-    ensures begun { IfErr result (AnswersFront (λ refusals. L.hears listener.old refusals listener.new) (S.rest source.old) (S.rest source.new) (W.written sink.old) (W.written sink.new)) }
-    ensures prompt { IsErrOf result ScriptFault.Read → AnswersWhole (λ refusals. L.hears listener.old refusals listener.new) (S.rest source.old) (S.rest source.new) (W.written sink.old) (W.written sink.new) }
+    ensures answered { OnOk result (AnswersAll live (λ refusals. L.hears listener.old refusals listener.new) (S.rest source.old) (S.rest source.new) (W.written sink.old) (W.written sink.new)) }
+    ensures begun { IfErr result (AnswersFront live (λ refusals. L.hears listener.old refusals listener.new) (S.rest source.old) (S.rest source.new) (W.written sink.old) (W.written sink.new)) }
+    ensures prompt { IsErrOf result ScriptFault.Read → AnswersWhole live (λ refusals. L.hears listener.old refusals listener.new) (S.rest source.old) (S.rest source.new) (W.written sink.old) (W.written sink.new) }
 
     // Memory is taken only for bytes that the source gave.
     ensures memory { IsErrOf result ScriptFault.NoMemory → ConsumesSome (S.rest source.old) (S.rest source.new) }
     ensures blames { Blames (S.failures source.old) (S.failures source.new) (W.failures sink.old) (W.failures sink.new) result }
 {
     let mut scanner = CrewScan::new(rt, alloc, workers, gate);
-    let mut feed = Feed::new(alloc);
+    let mut feed = Feed::new(alloc, live);
     let mut chunk = [0u8; CHUNK];
     for _ in 0..u64::MAX {
         let Ok(count) = source.read(&mut chunk) else {

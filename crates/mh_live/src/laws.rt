@@ -6,7 +6,7 @@ pub fn scripts_are_answered_as_run()
     ensures { ScriptsAreAnsweredAsRun }
 {}
 
-/// Each text can be answered so.
+/// Each text can be answered so, also in a world.
 pub fn texts_have_answers()
     ensures { TextsHaveAnswers }
 {}

@@ -1,22 +1,26 @@
-//! The machine that lines drive.
+//! The machine that lines drive, or the world.
 //!
 //! A line outside the grammar is refused with its number and changes nothing, and the next one is answered. Before the
-//! configuration each line that isn't blank is bad, unless it is one. A second configuration is a bad line.
+//! configuration each line that isn't blank is bad, unless it is one. A second configuration is a bad line. A world waits
+//! for no configuration, and each is a bad line there.
 //!
-//! An event after the 1,000,000th and one for which memory is refused are answered so, and change nothing, not even
-//! which names were seen. A line is answered with out of memory only if it is a configuration, a command, a quantum or
-//! a dump. That the event may ask for memory at all is said by private contracts alone (`MayAskForMemory` of
-//! `mh_machine`).
-ghost use Rattle.std.specs.Prelude.{◌≡◌, [], true, false, IfOk, OnOk, Some};
+//! An event after the last of all and one for which memory is refused are answered so, and change nothing, not even which
+//! names were seen. So is a control in a world. A line is answered with out of memory only if it is a configuration, a
+//! command, a quantum or a dump; in a world only if its command makes a new object. That the event of a machine may ask
+//! for memory at all is said by private contracts alone (`MayAskForMemory` of `mh_machine`).
+ghost use Rattle.std.specs.Prelude.{◌≡◌, [], true, false, IfOk, OnOk};
 ghost use Rattle.std.specs.String.{string_bytes};
 ghost use Rattle.mh_model.specs.Script.{is_blank, line_of};
-ghost use Rattle.mh_live.specs.Answers.{live_of};
+ghost use Rattle.mh_live.specs.Answers.{IsOfRules, grows_of, runs_of};
 ghost use Rattle.mh_live.specs.Heard.{IsWhy, is_configured};
 ghost use Rattle.mh_model.specs.Live.{Waits, IsTurn};
 
-use crate::answer::{answer, refused, starved};
+use crate::answer::{answer, answer_in_world, refused, starved, uncollected};
+use crate::growing::GrowingWorld;
 use crate::names::Names;
 use mh_model::command::Event;
+use mh_model::config::{Config, Rules};
+use mh_model::limits::LEAST_QUANTUM;
 use mh_model::memory::NoMemory;
 use mh_script::mh_machine::machine::Machine;
 use mh_script::mh_reasons::line::line_reason;
@@ -28,12 +32,12 @@ use std::marker::Model;
 
 /// A machine, with the names of its sessions.
 #[derive(Drop)]
-pub(crate) struct Attended {
+pub(crate) struct AttendedMachine {
     machine: Machine,
     names: Names,
 }
 
-impl Attended {
+impl AttendedMachine {
     /// Answers a line after the configuration, and says what is wrong if it is outside the grammar.
     fn line<S: Scanner>(
         &mut self,
@@ -44,7 +48,7 @@ impl Attended {
         text: &mut String,
     ) -> Result<Option<LineReason>, NoMemory>
         requires { string_bytes text.old ≡ [] }
-        ensures turn { OnOk result (IsTurn number (live_of (Some self.old)) line.now (record { text = string_bytes text.new; live = live_of (Some self.new) })) }
+        ensures turn { OnOk result (IsTurn number (runs_of self.old) line.now (record { text = string_bytes text.new; live = runs_of self.new })) }
         ensures why { IfOk result (IsWhy true line.now) }
     {
         match line_of(line) {
@@ -69,11 +73,59 @@ impl Attended {
     }
 }
 
+/// A world, with the names of its sessions.
+#[derive(Drop)]
+pub(crate) struct AttendedWorld {
+    world: GrowingWorld,
+    names: Names,
+}
+
+impl AttendedWorld {
+    /// Answers a line, and says what is wrong if it is outside the grammar.
+    fn line(
+        &mut self,
+        number: u64,
+        line: &[u8],
+        text: &mut String,
+    ) -> Result<Option<LineReason>, NoMemory>
+        requires { string_bytes text.old ≡ [] }
+        ensures turn { OnOk result (IsTurn number (grows_of self.old) line.now (record { text = string_bytes text.new; live = grows_of self.new })) }
+        ensures why { IfOk result (IsWhy true line.now) }
+    {
+        match line_of(line) {
+            Line::Blank => Ok(None),
+            Line::Wrong => {
+                refused(number, text)?;
+                Ok(Some(line_reason(true, line)))
+            }
+            Line::Asks(_) => {
+                uncollected(text)?;
+                Ok(None)
+            }
+            Line::Calls(name, command) => {
+                let who = self.names.number(name);
+                if answer_in_world(&mut self.world, who, &command, text)? {
+                    self.names.see(name);
+                }
+                Ok(None)
+            }
+        }
+    }
+}
+
+/// What lines drive: nothing before the configuration.
+#[derive(Drop)]
+pub(crate) enum Attended {
+    Nothing,
+    Machine(AttendedMachine),
+    World(AttendedWorld),
+}
+
 /// A run by lines, between two of them.
 #[derive(Drop)]
 pub struct Live {
     alloc: Global,
-    run: Option<Attended>,
+    run: Attended,
 }
 
 impl Model for Live {
@@ -90,7 +142,25 @@ impl Live {
     pub fn new(alloc: Global) -> Live
         ensures { result ≡ Waits }
     {
-        Live { alloc, run: None }
+        Live {
+            alloc,
+            run: Attended::Nothing,
+        }
+    }
+
+    /// A run in a world under these rules, which are all that it has of a configuration.
+    pub fn in_world(alloc: Global, rules: Rules) -> Live
+        ensures { IsOfRules rules result }
+    {
+        let Some(config) = Config::under(rules, 1, LEAST_QUANTUM, 0, 0) else {
+            unreachable!();
+        };
+        let world = GrowingWorld::open(alloc, config);
+        let names = Names::new();
+        Live {
+            alloc,
+            run: Attended::World(AttendedWorld { world, names }),
+        }
     }
 
     fn configure(
@@ -112,7 +182,7 @@ impl Live {
         match Machine::open(self.alloc, config) {
             Ok(machine) => {
                 let names = Names::new();
-                self.run = Some(Attended { machine, names });
+                self.run = Attended::Machine(AttendedMachine { machine, names });
                 Ok(None)
             }
             Err(NoMemory) => {
@@ -140,8 +210,9 @@ impl Live {
             return Ok(None);
         }
         match &mut self.run {
-            None => self.configure(number, line, text),
-            Some(attended) => attended.line(self.alloc, number, line, scanner, text),
+            Attended::Nothing => self.configure(number, line, text),
+            Attended::Machine(run) => run.line(self.alloc, number, line, scanner, text),
+            Attended::World(run) => run.line(number, line, text),
         }
     }
 }

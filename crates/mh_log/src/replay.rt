@@ -21,7 +21,7 @@ use mh_heap::plain::PlainHeap;
 use mh_model::command::{Command, Event};
 use mh_model::config::{Config, Rules};
 use mh_model::history::Entry;
-use mh_model::limits::{LEAST_QUANTUM, MOST_EVENTS};
+use mh_model::limits::{LEAST_QUANTUM, MOST_ENTRIES};
 use mh_model::memory::NoMemory;
 use mh_model::reply::{Refusal, Reply};
 use mh_sessions::mh_judging::entry_fault::EntryFault;
@@ -60,7 +60,7 @@ fn fault_of(heap: &mut PlainHeap, followed: u64, entry: Entry) -> Result<EntryFa
     requires unseen { followed ≢ most_entries → ¬ IsSeen (world_of heap.old) entry.event entry.reply }
     ensures { IfOk result (IsFaultAfter (IsUnseen (world_of heap.old)) followed entry) }
 {
-    if followed == MOST_EVENTS {
+    if followed == MOST_ENTRIES {
         return Ok(EntryFault::TooMany);
     }
     let Event::Session(who, command) = entry.event else {

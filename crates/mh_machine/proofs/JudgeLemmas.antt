@@ -1,9 +1,8 @@
 -- Histories that are judged entry by entry.
-use Rattle.std.proofs.Common.{◌≡◌, ◌≢◌, ◌∙◌, inl, inr, ℕ, suc, ◌+◌, ◌-◌, ◌<◌, ◌≤◌, true, false, Option, Some, None, IsSome, IsNone, List, [], ◌∷◌, ◌++◌, length, map, take, get_or, ap, sym, refl, subst, arith}
+use Rattle.std.proofs.Common.{◌≡◌, ◌∙◌, inl, inr, ℕ, suc, ◌+◌, ◌-◌, ◌<◌, ◌≤◌, true, false, Option, Some, None, IsSome, IsNone, List, [], ◌∷◌, ◌++◌, length, map, take, get_or, ap, sym, refl, subst, arith}
 use Rattle.std.proofs.lemmas.List.{length-append, length_push, take_all, take_at, take-append-le, take_more, map-append}
 use Rattle.mh_model.specs.declared.command.Event.{Event}
 use Rattle.mh_model.specs.declared.config.Config.{Config}
-use Rattle.mh_model.specs.Limits.{most_entries}
 use Rattle.mh_model.specs.History.{IsFirstBadOf}
 use Rattle.mh_model.specs.HistoryTexts.{IsJudged}
 use Rattle.mh_model.specs.Machine.{Machine, first_machine, event_step}

@@ -1,2 +1,3 @@
 pub mod JudgeLemmas
+pub mod ReservedLemmas
 pub mod RunningLemmas

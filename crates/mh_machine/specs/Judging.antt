@@ -1,5 +1,5 @@
 -- The judging of histories: when an entry is right, what a judge knows of the entries that were shown, and what a fault states.
-use Rattle.std.specs.Prelude.{◌≡◌, ◌≢◌, ◌⊎◌, ℕ, suc, Bool, true, false, ◌≤◌, Option, Some, None, MatchOption, List, [], ◌∷◌, ◌++◌, length, map}
+use Rattle.std.specs.Prelude.{◌≡◌, ◌⊎◌, ℕ, suc, Bool, true, false, ◌≤◌, ◌<◌, Option, Some, None, MatchOption, List, [], ◌∷◌, ◌++◌, length, map}
 use Rattle.mh_model.specs.declared.command.Event.{Event}
 use Rattle.mh_model.specs.declared.config.Config.{Config}
 use Rattle.mh_model.specs.declared.history.Entry.{Entry}
@@ -25,8 +25,8 @@ IsMeasured machine measured = measured ≡ measured_step machine measured.entry.
 
 -- What the try of an event shows by a rule of its entry: the event was done and its entry is right, or else it is one event too many or its entry is wrong
 abbrev pub IsTried : Type 0 → Running → Event → Running → Bool → Type 0
-IsTried Right old event new true = (old.done ≢ most_entries) × Right × (new.machine ≡ (event_step old.machine event).state) × (new.done ≡ suc old.done)
-IsTried Right old event new false = (old.done ≡ most_entries) ⊎ ¬ Right
+IsTried Right old event new true = (old.done < most_entries) × Right × (new.machine ≡ (event_step old.machine event).state) × (new.done ≡ suc old.done)
+IsTried Right old event new false = (most_entries ≤ old.done) ⊎ ¬ Right
 
 -- A rule of lists of 1,000,000 elements at most, each of which fits the machine after the events before it
 pub record IsEventRule {X : Type 0} (config : Config) (event_of : X → Event) (Fits : Machine → X → Type 0) (Lawful : List X → Type 0) : Type 0 where

@@ -4,7 +4,7 @@
 //!
 //! Commands and quanta are done by a `Executor`. What that was told is the model's account of the event, and an event that
 //! isn't done leaves it as it was.
-ghost use Rattle.std.specs.Prelude.{◌≡◌, ℕ, ◌+◌, ◌<◌, ◌≤◌, ◌==◌, IfOk, OnErr, Some, length};
+ghost use Rattle.std.specs.Prelude.{◌≡◌, ℕ, ◌+◌, ◌<◌, ◌≤◌, ◌==◌, IfOk, OnOk, OnErr, Some, length};
 ghost use Rattle.mh_model.specs.declared.birth.TheConstants.{LIFE};
 ghost use Rattle.mh_model.specs.declared.command.Command.TheVariants as commands;
 ghost use Rattle.mh_model.specs.declared.command.Control.TheVariants as controls;
@@ -69,6 +69,7 @@ impl Engine {
     pub(crate) fn open(alloc: Global, config: Config) -> Result<Engine, NoMemory>
         ensures machine { IfOk result (λ engine. machine_of engine ≡ first_machine config) }
         ensures room { IfOk result (λ engine. engine.trace.room ≡ 0) }
+        ensures capacity { IfOk result (λ engine. engine.trace.capacity ≡ 0) }
     {
         Ok(Engine {
             heap: PagedHeap::open(alloc, config)?,
@@ -83,6 +84,8 @@ impl Engine {
         requires room { 0 < self.old.trace.room }
         requires short { IsShort (machine_of self.old) }
         ensures step { quantum_run (machine_of self.old) ≡ says result (machine_of self.new) }
+        ensures room { self.old.trace.room ≤ self.new.trace.room + 1 }
+        ensures capacity { self.new.trace.capacity ≡ self.old.trace.capacity }
         ensures told { AddsRan P.tells executor.old (Some (ran_by self.old.heap.kept)) executor.new }
     {
         let units = executor.quantum(&mut self.heap);
@@ -111,6 +114,8 @@ impl Engine {
         ensures step { command_step (machine_of self.old) who command.now ≡ says result (machine_of self.new) }
         ensures config { self.new.heap.kept.config ≡ self.old.heap.kept.config }
         ensures room { 0 < self.new.trace.room }
+        ensures taken { self.old.trace.room ≤ self.new.trace.room + 1 }
+        ensures capacity { self.new.trace.capacity ≡ self.old.trace.capacity }
         ensures told { P.tells (command_alone (command_deeds self.old.heap.kept who command.now)) executor.new }
     {
         let reply = executor.perform(&mut self.heap, who, command);
@@ -126,6 +131,8 @@ impl Engine {
         requires room { 0 < self.old.trace.room }
         requires short { IsShort (machine_of self.old) }
         ensures step { machine_of self.new ≡ with_due_quantum (machine_of self.old) }
+        ensures room { self.old.trace.room ≤ self.new.trace.room + 1 }
+        ensures capacity { self.new.trace.capacity ≡ self.old.trace.capacity }
         ensures told { AddsRan P.tells executor.old (ran_if (is_quantum_due (machine_of self.old)) self.old.heap.kept) executor.new }
     {
         let every = u64::from(config.every);
@@ -148,6 +155,8 @@ impl Engine {
         requires half { IsShort (half_step (machine_of self.old) (events.Session who command.now)) }
         requires fresh { P.tells nothing executor.old }
         ensures step { IfOk result (λ reply. event_step (machine_of self.old) (events.Session who command.now) ≡ says reply (machine_of self.new)) }
+        ensures room { OnOk result (self.old.trace.room ≤ self.new.trace.room + 2) }
+        ensures capacity { OnOk result (self.old.trace.capacity ≤ self.new.trace.capacity) }
         ensures err { OnErr result (self.new ≡ self.old) }
         ensures memory { OnErr result (self.old.trace.room < 2) }
         ensures told { IfOk result (λ reply. P.tells (account_of (machine_of self.old) (events.Session who command.now)) executor.new) }
@@ -166,6 +175,8 @@ impl Engine {
         requires room { 0 < self.old.trace.room }
         requires short { IsShort (machine_of self.old) }
         ensures step { control_step (machine_of self.old) controls.Quantum ≡ says result (machine_of self.new) }
+        ensures room { self.old.trace.room ≤ self.new.trace.room + 1 }
+        ensures capacity { self.new.trace.capacity ≡ self.old.trace.capacity }
         ensures told { AddsRan P.tells executor.old (ran_if (self.old.heap.kept.config.every == 0) self.old.heap.kept) executor.new }
     {
         if config.every == 0 {
@@ -190,6 +201,8 @@ impl Engine {
         requires short { IsShort (machine_of self.old) }
         requires fresh { P.tells nothing executor.old }
         ensures step { IfOk result (λ reply. control_step (machine_of self.old) control ≡ says reply (machine_of self.new)) }
+        ensures room { OnOk result (self.old.trace.room ≤ self.new.trace.room + 2) }
+        ensures capacity { OnOk result (self.old.trace.capacity ≤ self.new.trace.capacity) }
         ensures err { OnErr result (self.new ≡ self.old) }
         ensures memory { OnErr result (MayAskForMemory self.old.trace.room (events.Control control)) }
         ensures told { IfOk result (λ reply. P.tells (account_of (machine_of self.old) (events.Control control)) executor.new) }
@@ -226,6 +239,8 @@ impl Engine {
         requires half { IsShort (half_step (machine_of self.old) event) }
         requires fresh { P.tells nothing executor.old }
         ensures step { IfOk result (λ reply. event_step (machine_of self.old) event ≡ says reply (machine_of self.new)) }
+        ensures room { OnOk result (self.old.trace.room ≤ self.new.trace.room + 2) }
+        ensures capacity { OnOk result (self.old.trace.capacity ≤ self.new.trace.capacity) }
         ensures err { OnErr result (self.new ≡ self.old) }
         ensures memory { OnErr result (MayAskForMemory self.old.trace.room event) }
         ensures told { IfOk result (λ reply. P.tells (account_of (machine_of self.old) event) executor.new) }

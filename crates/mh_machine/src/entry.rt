@@ -12,7 +12,7 @@ ghost use Rattle.mh_machine.specs.Judging.{HasItsReply, IsEventRule, IsMeasured,
 ghost use Rattle.mh_machine.specs.Running.{MayAskForMemory};
 ghost use Rattle.mh_machine.specs.Rules.{legal_rule, record_rule};
 
-use crate::machine::{Machine, Stop};
+use crate::machine::Machine;
 use crate::same::is_same;
 use mh_model::command::Event;
 use mh_model::history::{Entry, Measured};
@@ -32,7 +32,7 @@ pub trait JudgedEntry {
     fn event(&self) -> Event
         ensures { result ≡ event_of self.now };
 
-    /// Does its event, unless 1,000,000 were done, and reports whether it is what the machine made of it.
+    /// Does its event, unless a history of 1,000,000 was done, and reports whether it is what the machine made of it.
     fn try_on(&self, machine: &mut Machine, scanner: &mut OneScan) -> Result<bool, NoMemory>
         ensures tried { IfOk result (IsTried (fits machine.old.machine self.now) machine.old (event_of self.now) machine.new) }
         ensures stopped { OnErr result (machine.new ≡ machine.old) }
@@ -53,11 +53,11 @@ impl JudgedEntry for Entry {
     }
 
     fn try_on(&self, machine: &mut Machine, scanner: &mut OneScan) -> Result<bool, NoMemory> {
-        match machine.step(self.event, scanner) {
-            Ok(reply) => Ok(is_same(&self.reply, &reply)),
-            Err(Stop::HistoryFull) => Ok(false),
-            Err(Stop::NoMemory) => Err(NoMemory),
+        if !machine.has_history_room() {
+            return Ok(false);
         }
+        let reply = machine.step_in_room(self.event, scanner)?;
+        Ok(is_same(&self.reply, &reply))
     }
 
     ghost rule = { legal_rule };

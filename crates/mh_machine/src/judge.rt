@@ -77,7 +77,7 @@ impl Judge {
     }
 
     /// Shows it the next entry. After the first bad one it does nothing.
-    #[tactic(auto, unfolding(mh_model::specs::Limits::most_entries))]
+    #[tactic(auto, unfolding(mh_model::specs::Limits::most_events))]
     pub fn entry<E: JudgedEntry>(&mut self, entry: &E) -> Result<(), NoMemory>
         ensures seen { OnOk result ((config : Config) (seen : List E) → HasSeen config E.event_of (E.lawful config) seen self.old → HasSeen config E.event_of (E.lawful config) (seen ++ entry.now ∷ []) self.new) }
         ensures settled { IsSome self.old.first_bad → (self.new ≡ self.old) × IsOk result }

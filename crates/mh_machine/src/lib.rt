@@ -14,4 +14,5 @@ pub mod entry;
 mod executor;
 pub mod judge;
 pub mod machine;
+pub mod reserved;
 pub mod same;

@@ -22,3 +22,7 @@ is_configuration pages quantum trigger every =
 -- the most entries of a history, and the most events of a script that are answered: 1,000,000
 unfoldable pub most_entries : ℕ
 most_entries = 1000000
+
+-- the most events of a machine, and the most commands of a world: 2^42, so that no count of them comes near to 2^62
+unfoldable pub most_events : ℕ
+most_events = 4398046511104

@@ -53,6 +53,9 @@ pub const PAGE_STEPS: u64 = 192;
 pub const PAGE_UNITS: u64 = 640;
 
 /// The most entries of a history, and the most events of a script that are answered.
-pub const MOST_EVENTS: u64 = 1_000_000;
+pub const MOST_ENTRIES: u64 = 1_000_000;
+
+/// The most events of a machine, and the most commands of a world.
+pub const MOST_EVENTS: u64 = 1 << 42;
 
 pub const MOST_WORKERS: u64 = 64;

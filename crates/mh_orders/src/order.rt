@@ -45,6 +45,23 @@ pub struct SessionsOptions {
     pub may_be_full: bool,
 }
 
+/// What the lines of `live` are answered by.
+#[derive(Clone, Copy, Debug, PartialEq, Eq)]
+pub enum LiveHeap {
+    /// The machine of the configuration that they begin with.
+    Machine,
+    /// A world, which never collects, never moves and is never full, under the second rules.
+    World,
+}
+
+/// How lines are answered as they come.
+#[derive(Clone, Copy, Debug, PartialEq, Eq)]
+pub struct LiveOptions {
+    /// How many threads scan at a time at most.
+    pub workers: usize,
+    pub heap: LiveHeap,
+}
+
 /// How a script is sized.
 #[derive(Clone, Copy, Debug, PartialEq, Eq)]
 pub struct SizeOptions {
@@ -68,8 +85,8 @@ pub enum Order {
     Cycles(Rules),
     /// Run the script on standard input, and write a page that shows these events.
     Show(RangeOptions),
-    /// Answer each line of standard input as it comes, with so many workers at most.
-    Live(usize),
+    /// Answer each line of standard input as it comes.
+    Live(LiveOptions),
     /// Let the sessions of the script on standard input race, with so many workers at most.
     Race(usize),
     /// Check the history on standard input, of version 1, under a configuration.

@@ -6,6 +6,8 @@ use Rattle.mh_live.specs.OfScript.ScriptFault.{ScriptFault}
 use Rattle.mh_command_line.specs.declared.fault.LineFault.{LineFault}
 use Rattle.mh_orders.specs.declared.order.Order.{Order}
 use Rattle.mh_orders.specs.declared.order.Order.TheVariants.{Run, Steps, Show, Live, Race, Check, CheckSessions, CheckLog, Audit, Migrate, Generate, Version, Chrome, Cycles, Curve, CurveHistory, CurvePauses, Size, SizeRate, SizeTarget, SizeScript}
+use Rattle.mh_orders.specs.declared.order.LiveHeap.{LiveHeap}
+use Rattle.mh_orders.specs.declared.order.LiveHeap.TheVariants.{Machine, World}
 use Rattle.mh_orders.specs.declared.order.Form.{Form}
 use Rattle.mh_orders.specs.declared.order.Form.TheVariants.{Replies, History}
 use Rattle.mh_live.specs.OfScript.ScriptFault.TheVariants.{Write, NoMemory}
@@ -19,9 +21,12 @@ use Rattle.mh_generate.specs.Generated.{WritesAsked}
 use Rattle.mh_log.specs.OfSessions.Judged.{IsAuditing, IsChecking, IsMigrating}
 use Rattle.mh_race_text.specs.Raced.{IsRaceRun}
 use Rattle.mh_log.specs.OfSessions.RunHistory.{IsHistoryRun}
+use Rattle.mh_live.specs.Answers.{IsOfRules}
 use Rattle.mh_live.specs.Feeding.{IsLiveRun}
+use Rattle.mh_model.specs.Live as live
 use Rattle.mh_model.specs.RunHistories.{output_under}
 use Rattle.mh_model.specs.declared.config.Rules.{Rules}
+use Rattle.mh_model.specs.declared.config.Rules.TheVariants.{Second}
 use Rattle.mh_log.specs.OfSessions.Texts.{IsSessionsJudging}
 use Rattle.mh_log.specs.Judgements.{IsLogJudging}
 use Rattle.mh_live.specs.OfScript.Run.{Device, IsRun, transcript}
@@ -47,11 +52,18 @@ pub record Obeys {T : Type 0} (Ends : Result T ScriptFault → Type 0) (Says_end
   pub said : Says_end errors errors' ended
   pub exit : status ≡ status_by ended
 
+-- what answers lines before the first of them: no machine yet, or a world under the second rules
+abbrev pub IsOpened : LiveHeap → live.Live → Type 0
+IsOpened Machine opened = opened ≡ live.Waits
+IsOpened World opened = IsOfRules Second opened
+
 -- lines were answered as they came, those that were refused were reported in between, and at the end a fault
-pub record AnswersLines (source source' sink sink' : Device) (errors errors' : ErrorStream) (status : ℕ) : Type 0 where
+pub record AnswersLines (heap : LiveHeap) (source source' sink sink' : Device) (errors errors' : ErrorStream) (status : ℕ) : Type 0 where
+  pub opened : live.Live
+  pub first : IsOpened heap opened
   pub ended : Result Unit ScriptFault
   pub between : ErrorStream
-  pub run : IsLiveRun (λ refusals. SaysRefusals errors refusals between) source source' sink sink' ended
+  pub run : IsLiveRun opened (λ refusals. SaysRefusals errors refusals between) source source' sink sink' ended
   pub said : SaysFault between errors' ended
   pub exit : status ≡ live_status_of ended
 
@@ -94,7 +106,7 @@ Serves (Ok (Steps options)) source source' sink sink' errors errors' status = Ob
 Serves (Ok (Chrome options)) source source' sink sink' errors errors' status = Obeys (IsRun (transcript (chrome_text options) options.rules) source source' sink sink') (SaysRun SaysEnd) status_of errors errors' status
 Serves (Ok (Cycles rules)) source source' sink sink' errors errors' status = Obeys (IsRun (transcript (λ _. cycles_text) rules) source source' sink sink') (SaysRun SaysEnd) status_of errors errors' status
 Serves (Ok (Show options)) source source' sink sink' errors errors' status = Obeys (IsRun (transcript (page_text options) options.rules) source source' sink sink') (SaysRun SaysEnd) status_of errors errors' status
-Serves (Ok (Live workers)) source source' sink sink' errors errors' status = AnswersLines source source' sink sink' errors errors' status
+Serves (Ok (Live options)) source source' sink sink' errors errors' status = AnswersLines options.heap source source' sink sink' errors errors' status
 Serves (Ok (Race workers)) source source' sink sink' errors errors' status = Obeys (IsRaceRun source source' sink sink') (SaysRun SaysEnd) status_of errors errors' status
 Serves (Ok (Check config)) source source' sink sink' errors errors' status = Obeys (IsChecking config source source' sink sink') (SaysRun SaysJudgement) judgement_status_of errors errors' status
 Serves (Ok (CheckSessions options)) source source' sink sink' errors errors' status =

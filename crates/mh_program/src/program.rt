@@ -10,7 +10,7 @@ ghost use Rattle.std.specs.String.{string_bytes};
 ghost use Rattle.mh_command_line.specs.declared.fault.LineFault.{LineFault};
 ghost use Rattle.mh_orders.specs.declared.order.Order.{Order};
 ghost use Rattle.mh_command_line.specs.Orders.{HasFewWorkers, HasFirstRules, OrdersBy};
-ghost use Rattle.mh_program.specs.Program.{AnswersLines, IsRunBy, Obeys, Serves, WritesScript, WritesVersion};
+ghost use Rattle.mh_program.specs.Program.{AnswersLines, IsOpened, IsRunBy, Obeys, Serves, WritesScript, WritesVersion};
 ghost use Rattle.mh_program.specs.Complaints.{SaysEnd, SaysFault, SaysJudgement, SaysLog, SaysRun, SaysSeen};
 ghost use Rattle.mh_program.specs.Status.{judgement_status_of, log_status_of, sessions_status_of, status_of};
 ghost use Rattle.mh_model.specs.declared.config.Rules.TheVariants.{First};
@@ -37,6 +37,7 @@ use mh_command_line::version::VERSION_LINE;
 use mh_cycles::run::cycles_script;
 use mh_generate::generate::generate;
 use mh_live::feed::run_live;
+use mh_live::live::Live;
 use mh_live::mh_scan::crew_scan::CrewGate;
 use mh_live::mh_script::end::End;
 use mh_live::mh_script::fault::{ScriptFault, WriteError};
@@ -48,7 +49,9 @@ use mh_log::mh_sessions::texts::check_sessions;
 use mh_log::texts::check_log;
 use mh_model::config::{Config, Rules};
 use mh_orders::generate_options::Options;
-use mh_orders::order::{Form, Order, RunOptions, SessionsOptions, StepsOptions};
+use mh_orders::order::{
+    Form, LiveHeap, LiveOptions, Order, RunOptions, SessionsOptions, StepsOptions,
+};
 use mh_orders::range::RangeOptions;
 use mh_race_text::race::race_script;
 use mh_show::mh_curve::kind::TextKind;
@@ -207,25 +210,37 @@ fn show<S: Source, W: Sink, E: Sink>(
     status(&ended)
 }
 
+/// What answers lines before the first of them.
+fn opened(alloc: Global, heap: LiveHeap) -> Live
+    ensures { IsOpened heap result }
+{
+    match heap {
+        LiveHeap::Machine => Live::new(alloc),
+        LiveHeap::World => Live::in_world(alloc, Rules::Second),
+    }
+}
+
 /// Answers lines as they come, and reports those that are refused and a fault of all that.
 fn live<R: Threads, S: Source, W: Sink, E: Sink, G: CrewGate>(
     rt: &R,
     alloc: Global,
-    workers: usize,
+    options: LiveOptions,
     source: &mut S,
     sink: &mut W,
     errors: &mut Errors<E>,
     gate: &G,
 ) -> u8
-    requires few { (0 < workers) × (workers ≤ 64) }
+    requires few { (0 < options.workers) × (options.workers ≤ 64) }
     requires source_count { S.failures source.old < 2 ^ 62 }
     requires sink_count { W.failures sink.old < 2 ^ 62 }
-    ensures { AnswersLines
+    ensures { AnswersLines options.heap
         (device (S.rest source.old) (S.failures source.old)) (device (S.rest source.new) (S.failures source.new))
         (device (W.written sink.old) (W.failures sink.old)) (device (W.written sink.new) (W.failures sink.new))
         errors.old errors.new result }
 {
-    let ended = run_live(rt, alloc, source, sink, errors, workers, gate);
+    let live = opened(alloc, options.heap);
+    let workers = options.workers;
+    let ended = run_live(rt, alloc, live, source, sink, errors, workers, gate);
     errors.say_fault(&ended);
     live_status(&ended)
 }
@@ -431,7 +446,7 @@ pub fn serve<R: Threads + Wait + Sync, S: Source, W: Sink, E: Sink, G: CrewGate 
         Ok(Order::Chrome(options)) => chrome(alloc, options, source, sink, errors),
         Ok(Order::Cycles(rules)) => cycles(alloc, rules, source, sink, errors),
         Ok(Order::Show(options)) => show(alloc, options, source, sink, errors),
-        Ok(Order::Live(workers)) => live(rt, alloc, workers, source, sink, errors, gate),
+        Ok(Order::Live(options)) => live(rt, alloc, options, source, sink, errors, gate),
         Ok(Order::Race(workers)) => race(rt, alloc, workers, source, sink, errors, gate),
         Ok(Order::Check(config)) => check(alloc, config, source, sink, errors),
         Ok(Order::CheckSessions(options)) => check_seen(alloc, options, source, sink, errors),

@@ -23,7 +23,7 @@ use crate::racer::Racer;
 use mh_model::command::Event;
 use mh_model::config::Config;
 use mh_model::history::Entry;
-use mh_model::limits::MOST_EVENTS;
+use mh_model::limits::MOST_ENTRIES;
 use mh_model::memory::NoMemory;
 use mh_service::mh_scan::crew_scan::CrewGate;
 use mh_service::mh_seat_laws::lock::events_have_one_owner;
@@ -185,7 +185,7 @@ impl Raced {
         ensures memory { result ≡ Some Stop.NoMemory → vec_len self.now.history ≡ most_entries → SomeSeatStopped self.now.stops Stop.NoMemory }
     {
         match gravest(&self.stops) {
-            Some(Stop::HistoryFull) if self.history.len() as u64 == MOST_EVENTS => {
+            Some(Stop::HistoryFull) if self.history.len() as u64 == MOST_ENTRIES => {
                 Some(Stop::HistoryFull)
             }
             Some(_) => Some(Stop::NoMemory),

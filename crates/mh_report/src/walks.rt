@@ -11,6 +11,7 @@ ghost use Rattle.mh_report.specs.declared.walk.Walk.{Walk};
 ghost use Rattle.mh_report.specs.Walks.{IsWalk, AreInOrder, HasWalk};
 
 use crate::walk::Walk;
+use mh_model::memory::NoMemory;
 use std::alloc::Global;
 
 /// For how many windows a walk is kept.
@@ -30,6 +31,22 @@ impl Walks {
         Walks {
             walks: Vec::new(alloc),
         }
+    }
+
+    /// Makes room for all walks that may be kept.
+    pub fn reserve(&mut self) -> Result<(), NoMemory>
+        ensures kept { self.new.walks.items ≡ self.old.walks.items }
+    {
+        let missing = WINDOWS.saturating_sub(self.walks.len());
+        self.walks.reserve(missing)?;
+        Ok(())
+    }
+
+    /// Keeps no walk any more. What room there was for walks there is still.
+    pub fn clear(&mut self)
+        ensures { self.new.walks.items ≡ [] }
+    {
+        self.walks.clear();
     }
 
     /// How many walks are of a shorter window.

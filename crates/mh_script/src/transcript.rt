@@ -26,7 +26,7 @@ use mh_machine::mh_scan::scan::Scanner;
 use mh_model::command::Event;
 use mh_model::config::{Config, Rules};
 use mh_model::history::Verdict;
-use mh_model::limits;
+use mh_model::limits::MOST_ENTRIES;
 use mh_text::device::DeviceFailed;
 use mh_text::script::{SCRIPT_BYTES, Script, parse};
 use mh_text::sink::Sink;
@@ -34,7 +34,7 @@ use mh_text::source::Source;
 use mh_text::text_error::TextError;
 use std::alloc::Global;
 
-const MOST_ENTRIES: usize = limits::MOST_EVENTS as usize;
+const MOST_ANSWERED: usize = MOST_ENTRIES as usize;
 
 /// What a run is written as: its replies, its history, or its steps.
 pub trait Transcript {
@@ -71,7 +71,7 @@ fn answered(events: &[Event]) -> &[Event]
     ensures events { result.now ≡ take most_entries events.now }
     ensures few { length result.now ≤ most_entries }
 {
-    &events[..events.len().min(MOST_ENTRIES)]
+    &events[..events.len().min(MOST_ANSWERED)]
 }
 
 /// Answers the events of a script under these rules, as far as a history has room.
@@ -124,7 +124,7 @@ pub fn transcribe<T: Transcript, C: Scanner, S: Source, W: Sink>(
     let bytes = text.as_slice();
     match parse(alloc, bytes) {
         Ok(script) => match write_answers(alloc, form, bytes, &script, rules, scanner, sink) {
-            Ok(()) if script.events().len() > MOST_ENTRIES => Err(ScriptFault::HistoryFull),
+            Ok(()) if script.events().len() > MOST_ANSWERED => Err(ScriptFault::HistoryFull),
             Ok(()) => Ok(End::Done),
             Err(WriteError::Device) => Err(ScriptFault::Write),
             Err(WriteError::NoMemory) => Err(ScriptFault::NoMemory),

@@ -26,7 +26,7 @@ use mh_judging::reply_fault::reply_fault;
 use mh_model::command::Event;
 use mh_model::config::Rules;
 use mh_model::history::Entry;
-use mh_model::limits::MOST_EVENTS;
+use mh_model::limits::MOST_ENTRIES;
 use mh_model::memory::NoMemory;
 use mh_text::pieces::Lines;
 use std::alloc::Global;
@@ -39,7 +39,7 @@ fn fault_of(heap: &mut PlainHeap, followed: u64, entry: Entry) -> Result<EntryFa
     requires unseen { followed ≢ most_entries → ¬ IsSeen (world_of heap.old) entry.event entry.reply }
     ensures { IfOk result (IsFaultAfter (IsUnseen (world_of heap.old)) followed entry) }
 {
-    if followed == MOST_EVENTS {
+    if followed == MOST_ENTRIES {
         return Ok(EntryFault::TooMany);
     }
     let Event::Session(who, command) = entry.event else {

@@ -26,7 +26,7 @@ use mh_judging::mh_machine::same::is_same;
 use mh_model::command::{Command, Event};
 use mh_model::config::{Config, Rules};
 use mh_model::history::{Entry, Verdict};
-use mh_model::limits::{LEAST_QUANTUM, MOST_EVENTS};
+use mh_model::limits::{LEAST_QUANTUM, MOST_ENTRIES};
 use mh_model::memory::NoMemory;
 use mh_model::reply::{Refusal, Reply};
 use std::alloc::Global;
@@ -85,7 +85,7 @@ fn try_entry(heap: &mut PlainHeap, followed: u64, entry: &Entry) -> Result<bool,
     ensures stopped { OnErr result (world_of heap.new ≡ world_of heap.old) }
     ensures memory { OnErr result (MakesObject entry.now.event entry.now.reply) }
 {
-    if followed == MOST_EVENTS {
+    if followed == MOST_ENTRIES {
         return Ok(false);
     }
     follow(heap, entry)

@@ -23,7 +23,7 @@ use crate::text::size_text;
 use mh_model::command::Event;
 use mh_model::config::Config;
 use mh_model::history::Verdict;
-use mh_model::limits;
+use mh_model::limits::MOST_ENTRIES;
 use mh_model::memory::NoMemory;
 use mh_orders::order::SizeOptions;
 use mh_script::end::{End, LineRefusal};
@@ -39,14 +39,14 @@ use mh_text::source::Source;
 use mh_text::text_error::TextError;
 use std::alloc::Global;
 
-const MOST_ENTRIES: usize = limits::MOST_EVENTS as usize;
+const MOST_ANSWERED: usize = MOST_ENTRIES as usize;
 
 /// The events that a run answers.
 #[tactic(auto, using(mh_script::proofs::RunLemmas::take_min), unfolding(mh_model::specs::Limits::most_entries))]
 fn answered(events: &[Event]) -> &[Event]
     ensures { result.now ≡ take most_entries events.now }
 {
-    &events[..events.len().min(MOST_ENTRIES)]
+    &events[..events.len().min(MOST_ANSWERED)]
 }
 
 /// What is written if a number that is needed has more than 32 bits.
@@ -137,7 +137,7 @@ pub fn size_script<S: Source, W: Sink>(
     let bytes = text.as_slice();
     match parse(alloc, bytes) {
         Ok(script) => match write_size(alloc, &script, options, sink) {
-            Ok(()) if script.events().len() > MOST_ENTRIES => Err(ScriptFault::HistoryFull),
+            Ok(()) if script.events().len() > MOST_ANSWERED => Err(ScriptFault::HistoryFull),
             Ok(()) => Ok(End::Done),
             Err(WriteError::Device) => Err(ScriptFault::Write),
             Err(WriteError::NoMemory) => Err(ScriptFault::NoMemory),

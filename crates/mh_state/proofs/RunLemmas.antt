@@ -1,5 +1,5 @@
 -- Runs that go on event by event.
-use Rattle.std.proofs.Common.{◌≡◌, ◌≢◌, ◌<◌, ◌≤◌, ℕ, ◌+◌, Vec, Global, List, [], ◌∷◌, ◌++◌, length, take, drop, get_or, sym, ap, ◌∙◌, subst, arith}
+use Rattle.std.proofs.Common.{◌≡◌, ◌<◌, ◌≤◌, ℕ, ◌+◌, Vec, Global, List, [], ◌∷◌, ◌++◌, length, take, drop, get_or, sym, ap, ◌∙◌, subst, arith}
 use Rattle.std.proofs.lemmas.List.{length-append, take_more, take_all, take-append-drop}
 use Rattle.std.specs.Vec.{vec_len}
 use Rattle.mh_model.specs.declared.command.Event.{Event}
@@ -23,7 +23,7 @@ module _ (law : EventsKeepTheReplay) (config : Config) (events : List Event) whe
     few = omega arith;
   }
 
-  pub one-done : (count : ℕ) (before after : List Reply) (old new : Running) (event default : Event) → count < length events → event ≡ get_or events count default → old.done ≢ most_entries
+  pub one-done : (count : ℕ) (before after : List Reply) (old new : Running) (event default : Event) → count < length events → event ≡ get_or events count default → (most_entries ≤ old.done → ⊥)
       → HasDone config events count before old → GoesOn old before event new after → HasDone config events (count + 1) after new
   one-done count before after old new event default there is more has goes =
       let next : take (count + 1) events ≡ take count events ++ event ∷ [] = take_more events count default there ∙ ap (λ e. take count events ++ e ∷ []) (sym is) in
@@ -44,7 +44,7 @@ all-done config events count replies running all has = subst (λ es. IsReplay co
 
 -- the event after those that were done was refused
 pub stopped-at : (config : Config) (events : List Event) (count : ℕ) (replies after : List Reply) (old new : Running) (stop : Stop) → count < length events → new ≡ old → after ≡ replies
-    → (stop ≡ HistoryFull → old.done ≡ most_entries) → (old.done ≡ most_entries → stop ≡ HistoryFull) → HasDone config events count replies old → IsStopped config events after new stop
+    → (stop ≡ HistoryFull → most_entries ≤ old.done) → (most_entries ≤ old.done → stop ≡ HistoryFull) → HasDone config events count replies old → IsStopped config events after new stop
 stopped-at config events count replies after old new stop left same kept full ends has = rw (same, kept) (record { count = count; has = has; left = left; full = full; ends = ends })
 
 -- for a run that stopped
@@ -53,7 +53,7 @@ module _ (config : Config) (events : List Event) (replies : Vec Reply Global) (r
   stopped-so-far = answered-so-far config events stopped.count replies.items running stopped.has
 
   pub stopped-full : stop ≡ HistoryFull → vec_len replies ≡ most_entries
-  stopped-full is = let has = stopped.has in omega (arith, replies.ok.0, has.answered, has.done, stopped.full is)
+  stopped-full is = let has = stopped.has in omega (arith, replies.ok.0, has.answered, has.done, has.few, stopped.full is)
 
   pub stopped-more : stop ≡ HistoryFull → most_entries < length events
   stopped-more is = let has = stopped.has in omega (arith, has.done, stopped.full is, stopped.left)

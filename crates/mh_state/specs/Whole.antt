@@ -33,5 +33,5 @@ pub record IsStopped (config : Config) (events : List Event) (replies : List Rep
   pub count : ℕ
   pub has : HasDone config events count replies running
   pub left : count < length events
-  pub full : stop ≡ HistoryFull → running.done ≡ most_entries
-  pub ends : running.done ≡ most_entries → stop ≡ HistoryFull
+  pub full : stop ≡ HistoryFull → most_entries ≤ running.done
+  pub ends : most_entries ≤ running.done → stop ≡ HistoryFull

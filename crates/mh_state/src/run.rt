@@ -57,16 +57,16 @@ fn go_on<S: Scanner>(
     ensures done { OnOk result (GoesOn machine.old replies.old.items event machine.new replies.new.items) }
     ensures machine { OnErr result (machine.new ≡ machine.old) }
     ensures replies { OnErr result (replies.new.items ≡ replies.old.items) }
-    ensures full { IsErrOf result Stop.HistoryFull → machine.old.done ≡ most_entries }
-    ensures ends { machine.old.done ≡ most_entries → IsErrOf result Stop.HistoryFull }
+    ensures full { IsErrOf result Stop.HistoryFull → most_entries ≤ machine.old.done }
+    ensures ends { most_entries ≤ machine.old.done → IsErrOf result Stop.HistoryFull }
 {
-    if machine.is_full() {
+    if !machine.has_history_room() {
         return Err(Stop::HistoryFull);
     }
     if replies.reserve(1).is_err() {
         return Err(Stop::NoMemory);
     }
-    let reply = machine.step(event, scanner)?;
+    let reply = machine.step_in_room(event, scanner)?;
     replies.push_reserved(reply);
     Ok(())
 }

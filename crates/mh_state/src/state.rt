@@ -27,7 +27,7 @@ use mh_machine::mh_report::trace::Trace;
 use mh_model::command::Event;
 use mh_model::config::Config;
 use mh_model::history::Entry;
-use mh_model::limits::MOST_EVENTS;
+use mh_model::limits::MOST_ENTRIES;
 use mh_model::memory::NoMemory;
 use mh_model::reply::Reply;
 use mh_promise::replays::events_keep_the_replay;
@@ -100,13 +100,13 @@ impl State {
         ensures memory { IsErrOf result Stop.NoMemory → MayWantMemory self.old event }
     {
         events_keep_the_replay();
-        if self.history.len() as u64 == MOST_EVENTS {
+        if self.history.len() as u64 == MOST_ENTRIES {
             return Err(Stop::HistoryFull);
         }
         match prepare(self.alloc, &mut self.history, &self.machine, event) {
             Err(NoMemory) => Err(Stop::NoMemory),
             Ok(dumps) => {
-                let reply = self.machine.step(event, scanner)?;
+                let reply = self.machine.step_in_room(event, scanner)?;
                 let (copy, twice) = copies_of(reply, dumps);
                 self.history.push_reserved(Entry { event, reply: copy });
                 Ok(twice)

@@ -286,8 +286,8 @@ impl<'a> Call<'a> {
         count: usize,
     ) -> Result<Outcome, AllocError> {
         let answers = written.output.as_slice();
-        let is_right = are_right(rt, alloc, self.text, answers, true)?
-            || are_right(rt, alloc, self.text, answers, false)?;
+        let is_right = are_right(rt, alloc, self.words, self.text, answers, true)?
+            || are_right(rt, alloc, self.words, self.text, answers, false)?;
         if is_right && is_told(answers, written.told.as_slice(), ending) {
             Ok(answered(ending, answers, count))
         } else {

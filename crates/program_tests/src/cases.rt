@@ -60,6 +60,8 @@ const SHOW: &[&[u8]] = &[b"metroheap", b"show"];
 
 pub const LIVE: &[&[u8]] = &[b"metroheap", b"live"];
 
+pub const LIVE_WORLD: &[&[u8]] = &[b"metroheap", b"live", b"--world"];
+
 pub const CHECK_SESSIONS: &[&[u8]] = &[b"metroheap", b"check", b"--sessions"];
 
 pub const RACE: &[&[u8]] = &[b"metroheap", b"race"];
@@ -422,6 +424,15 @@ const LIVE_CASES: &[Case<'static>] = &[
             b"refused 10 line 1\nok\nok\nrefused 10 line 5\nspent 353 phase sweep\nspent 7 phase idle\n",
         ],
         told: b"metroheap: line 1: \"a\": config PAGES QUANTUM TRIGGER EVERY comes first\nmetroheap: line 5: \"walk\" is no control\n",
+        status: 0,
+    },
+    Case {
+        words: LIVE_WORLD,
+        input: b"a new 0 0 1\n* quantum\na write 0 0 7\na walk\nb clear 16\na read 0 0\n",
+        outputs: &[
+            b"ok\nrefused 11 no collector\nok\nrefused 10 line 4\nrefused 1 bad slot\nnumber 7\n",
+        ],
+        told: b"metroheap: line 4: \"walk\" is no command\n",
         status: 0,
     },
     // A last line without its end.

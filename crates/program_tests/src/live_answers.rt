@@ -1,5 +1,4 @@
 //! Answers to lines while memory is refused.
-use crate::cases::LIVE;
 use crate::program::launch;
 use std::alloc::{AllocError, Global};
 use std::sync::Wait;
@@ -25,10 +24,15 @@ pub fn refused_in(answers: &[u8]) -> usize {
 }
 
 /// What the lines of a text are answered with all memory there.
-fn answers_to<R: Threads + Wait + Sync>(rt: &R, alloc: Global, text: &[u8]) -> Option<Vec<u8>> {
+fn answers_to<R: Threads + Wait + Sync>(
+    rt: &R,
+    alloc: Global,
+    words: &[&[u8]],
+    text: &[u8],
+) -> Option<Vec<u8>> {
     let mut answers = Vec::new(alloc);
     let mut told = Vec::new(alloc);
-    match launch(rt, alloc, &Words(LIVE), text, &mut answers, &mut told) {
+    match launch(rt, alloc, &Words(words), text, &mut answers, &mut told) {
         0 => Some(answers),
         _ => None,
     }
@@ -69,12 +73,13 @@ fn without_starved_lines(
 pub fn are_right<R: Threads + Wait + Sync>(
     rt: &R,
     alloc: Global,
+    words: &[&[u8]],
     text: &[u8],
     answers: &[u8],
     has_config: bool,
 ) -> Result<bool, AllocError> {
     let lines = without_starved_lines(alloc, text, answers, has_config)?;
     let left = without_starved(alloc, answers)?;
-    let right = answers_to(rt, alloc, lines.as_slice());
+    let right = answers_to(rt, alloc, words, lines.as_slice());
     Ok(right.is_some_and(|right| right.as_slice() == left.as_slice()))
 }

@@ -1,14 +1,15 @@
 //! Texts whose output is known, while memory is refused.
 use crate::calls::{Call, Reading, Told, Wanted};
 use crate::cases::{
-    AUDIT, CHECK, CHECK_SESSIONS, GENERATE, LIVE, MIGRATE, RACE, RANDOM_SCRIPT, RUN, RUN_HISTORY,
+    AUDIT, CHECK, CHECK_SESSIONS, GENERATE, LIVE, LIVE_WORLD, MIGRATE, RACE, RANDOM_SCRIPT, RUN,
+    RUN_HISTORY,
 };
 use crate::sweep::check;
 use crate::texts::{
     BAD_HISTORY, BAD_NUMBER, BAD_RECORD, BAD_SEEN, BAD_UNSAID, COLLECTED, COLLECTED_OUTPUT,
-    COLLECTED_STEPS, CYCLE, FIRST_BAD, HISTORY, LEGAL, LINES_ANSWERED, LOOKED_THROUGH,
-    MIGRATE_CYCLES, RECORD, REFUSED, REFUSED_OUTPUT, REFUSED_REASON, RUN_BY_TWO, STEPS, crowded,
-    crowded_output, repeated, wide, wide_output,
+    COLLECTED_STEPS, CYCLE, FIRST_BAD, HISTORY, LEGAL, LINES_ANSWERED, LINES_IN_A_WORLD,
+    LOOKED_THROUGH, MIGRATE_CYCLES, RECORD, REFUSED, REFUSED_OUTPUT, REFUSED_REASON, RUN_BY_TWO,
+    STEPS, crowded, crowded_output, repeated, wide, wide_output,
 };
 use std::alloc::{AllocError, Global};
 use std::process::Abort;
@@ -133,6 +134,17 @@ fn lines_that_are_answered_one_by_one(rt: HostRuntime) -> Result<(), Fail> {
         wanted: Wanted::Answers(12),
         told: Told::Refusals,
         ..Call::known(LIVE, LINES_ANSWERED, b"")
+    };
+    check_both(&rt, rt.alloc(), call)?;
+    Ok(())
+}
+
+#[test]
+fn lines_in_a_world(rt: HostRuntime) -> Result<(), Fail> {
+    let call = Call {
+        wanted: Wanted::Answers(9),
+        told: Told::Refusals,
+        ..Call::known(LIVE_WORLD, LINES_IN_A_WORLD, b"")
     };
     check_both(&rt, rt.alloc(), call)?;
     Ok(())

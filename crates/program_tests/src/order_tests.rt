@@ -50,7 +50,8 @@ const ASKED: &[Asked<'static>] = &[
 fn workers_asked(alloc: Global, words: &[&str]) -> Option<usize> {
     match order(alloc, words) {
         Ok(Order::Run(options)) => Some(options.workers),
-        Ok(Order::Live(workers) | Order::Race(workers)) => Some(workers),
+        Ok(Order::Live(options)) => Some(options.workers),
+        Ok(Order::Race(workers)) => Some(workers),
         _ => None,
     }
 }

@@ -113,6 +113,10 @@ session s1 is b
 pub const LINES_ANSWERED: &[u8] =
     b"config 4 353 0 0\na new 0 0 61\na write 0 60 7\n* dump\n* start\n* quantum\na walk\n* stat\na read 0 60\n* report 1\nb new 1 1 1\nb shape 1\na read 0 60\n";
 
+/// Lines of which each has an answer in a world.
+pub const LINES_IN_A_WORLD: &[u8] =
+    b"a new 0 1 1\na write 0 0 7\n* stat\na new 1 0 60\na walk\nb new 0 60 60\nb shape 0\na put 0 0 1\na read 0 0\n";
+
 /// A line that is outside the grammar after some that are not.
 pub const REFUSED: &[u8] = b"config 4 209 0 0\na new 0 1 1\n* dump\nb walk\n";
 

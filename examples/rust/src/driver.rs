@@ -205,19 +205,36 @@ impl Driver {
         }
     }
 
-    fn seen(&mut self, call: unsafe extern "C" fn(&mut Handle, &mut ReplyNumbers) -> i32) -> Reply {
+    /// What a call shows without an event.
+    fn seen(&mut self, call: impl FnOnce(&mut Handle, &mut ReplyNumbers) -> i32) -> Reply {
         let mut reply = ReplyNumbers::default();
-        // SAFETY: as in `step`.
-        checked(unsafe { call(&mut self.handle, &mut reply) }).expect("a machine is seen");
+        checked(call(&mut self.handle, &mut reply)).expect("a machine is seen");
         self.shown(&reply)
     }
 
     pub fn see_stat(&mut self) -> Reply {
-        self.seen(sys::metroheap_see_stat)
+        // SAFETY: as in `step`.
+        self.seen(|handle, reply| unsafe { sys::metroheap_see_stat(handle, reply) })
     }
 
     pub fn see_left(&mut self) -> Reply {
-        self.seen(sys::metroheap_see_left)
+        // SAFETY: as in `step`.
+        self.seen(|handle, reply| unsafe { sys::metroheap_see_left(handle, reply) })
+    }
+
+    pub fn see_report(&mut self, window: u64) -> Reply {
+        // SAFETY: as in `step`.
+        self.seen(|handle, reply| unsafe { sys::metroheap_see_report(handle, window, reply) })
+    }
+
+    pub fn reserve(&mut self, events: usize) -> Result<(), Error> {
+        // SAFETY: as in `step`.
+        checked(unsafe { sys::metroheap_reserve(&mut self.handle, events) })
+    }
+
+    pub fn forget(&mut self) -> i32 {
+        // SAFETY: as in `step`.
+        unsafe { sys::metroheap_forget(&mut self.handle) }
     }
 }
 

@@ -50,7 +50,7 @@ pub enum Error {
     BadConfig,
     /// The line is no event; `reason` says why.
     Wrong,
-    /// The machine has done 1,000,000 events.
+    /// The machine has done 2^42 events.
     Full,
     /// Memory was refused.
     NoMemory,
@@ -155,6 +155,25 @@ impl Heap {
             Reply::Left(quanta) => quanta,
             other => unreachable!("quanta are no {other:?}"),
         }
+    }
+
+    /// What `Event::Report` would answer now. It is no event.
+    pub fn see_report(&mut self, window: u64) -> Report {
+        match self.0.see_report(window) {
+            Reply::Report(report) => report,
+            other => unreachable!("a report is no {other:?}"),
+        }
+    }
+
+    /// Makes room for the next `events` events, and for as many each time that the trace is forgotten. Then memory is
+    /// refused for none of them, unless it is a dump. It may be refused for their texts and deeds.
+    pub fn reserve(&mut self, events: usize) -> Result<(), Error> {
+        self.0.reserve(events)
+    }
+
+    /// Forgets the trace, from which reports count on then.
+    pub fn forget(&mut self) {
+        checked(self.0.forget()).expect("a machine has a trace");
     }
 }
 

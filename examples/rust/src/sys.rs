@@ -112,4 +112,7 @@ extern "C" {
     pub fn metroheap_deed_item(heap: &mut Handle, index: usize, deed: &mut DeedNumbers) -> i32;
     pub fn metroheap_see_stat(heap: &mut Handle, reply: &mut ReplyNumbers) -> i32;
     pub fn metroheap_see_left(heap: &mut Handle, reply: &mut ReplyNumbers) -> i32;
+    pub fn metroheap_see_report(heap: &mut Handle, window: u64, reply: &mut ReplyNumbers) -> i32;
+    pub fn metroheap_reserve(heap: &mut Handle, events: usize) -> i32;
+    pub fn metroheap_forget(heap: &mut Handle) -> i32;
 }

@@ -271,6 +271,47 @@ fn units_and_what_is_seen_without_an_event() {
 }
 
 #[test]
+fn traces_are_forgotten() {
+    let mut heap = heap(16, 400, 8, 40);
+    assert_eq!(heap.reserve(3), Ok(()));
+    assert_eq!(heap.reserve(usize::MAX), Err(Error::NoMemory));
+    assert_eq!(heap.step(new(0, 2340)), Ok(Reply::Ok));
+    let report = heap.see_report(420);
+    assert_eq!((report.mutator, report.quanta), (40, 1));
+    assert_eq!(heap.last_reply(), Ok(Reply::Ok));
+    assert_eq!(
+        heap.step(Event::Report { window: 420 }),
+        Ok(Reply::Report(report))
+    );
+    assert_eq!(heap.last_units().map(|units| units.at), Ok(440));
+    heap.forget();
+    assert_eq!(
+        heap.see_report(420),
+        Report {
+            mutator: 0,
+            collector: 0,
+            quanta: 0,
+            greatest: 0,
+            window: 420,
+            least: None,
+            floor: Some(20)
+        }
+    );
+    let shape = Event::Shape {
+        session: 1,
+        slot: 0,
+    };
+    assert_eq!(
+        heap.step(shape),
+        Ok(Reply::Shape {
+            references: 0,
+            numbers: 2340
+        })
+    );
+    assert_eq!(heap.last_units().map(|units| units.at), Ok(0));
+}
+
+#[test]
 fn deeds() {
     let mut heap = heap(4, 1000, 0, 0);
     heap.line("a new 0 0 1").unwrap();

@@ -46,7 +46,7 @@ pub returns-in_err-bytes-clause-begun : goal.returns-in_err-bytes-clause-begun
 returns-in_err-bytes-clause-begun g c =
     let inv = c.loop.invariant.2 in
     let returned = err_from_is_err_and c.from_residual-in_err-bytes.result c.from_residual-in_err-bytes.ensures.1 in
-    rw returned.1 (front_of_some _ _ returned.0 _ _ _ _ _ inv.0 (take c.in-Ok.count c.read.new.buffer) returned.2 inv.1 c.in-Ok.ensures.read (c.in_err-bytes.ensures.begun inv.0 _ c.args.listener.now inv.2))
+    rw returned.1 (front_of_some _ _ returned.0 _ _ _ _ _ inv.0 (take c.in-Ok.count c.read.new.buffer) returned.2 inv.1 c.in-Ok.ensures.read (c.in_err-bytes.ensures.begun c.args.live inv.0 _ c.args.listener.now inv.2))
 
 pub returns-in_err-bytes-clause-prompt : goal.returns-in_err-bytes-clause-prompt
 returns-in_err-bytes-clause-prompt g c =
@@ -69,7 +69,7 @@ loop-preserved g c =
       (
         inv.2.0 ++ take c.in-Ok.count c.read.new.buffer,
         Consumes-trans _ _ _ _ _ inv.2.1 c.in-Ok.ensures.read,
-        c.in_ok-bytes.ensures.done inv.2.0 _ c.args.listener.now inv.2.2,
+        c.in_ok-bytes.ensures.done c.args.live inv.2.0 _ c.args.listener.now inv.2.2,
         omega (arith, inv.2.3, count, length-append inv.2.0 (take c.in-Ok.count c.read.new.buffer)),
       ),
     )

@@ -10,5 +10,5 @@ invariant-loop g l =
     (g.S.Source.failures l.source ≡ g.S.Source.failures l.initial.source)
     × (g.W.Sink.failures l.sink ≡ g.W.Sink.failures l.initial.sink)
     × ((text : Text) × Consumes (g.S.Source.rest l.initial.source) (g.S.Source.rest l.source) text
-    × IsFed (λ refusals. g.L.Listener.hears l.initial.listener refusals l.listener) text (g.W.Sink.written l.initial.sink) (g.W.Sink.written l.sink) l.feed
+    × IsFed l.fn.live (λ refusals. g.L.Listener.hears l.initial.listener refusals l.listener) text (g.W.Sink.written l.initial.sink) (g.W.Sink.written l.sink) l.feed
     × (l.counter ≤ length text))

@@ -19,12 +19,12 @@ returns-in-Ok-write_answers-clause-begun g c =
 pub returns-in-Ok-write_answers-clause-full : goal.returns-in-Ok-write_answers-clause-full
 returns-in-Ok-write_answers-clause-full g c = λ is.
     let reads = reads_slice _ _ script_bounded _ _ _ _ c.as_slice-bytes.ensures.value c.in_ok-text.ensures.read c.in_ok-text.ensures.whole in
-    HistoryFull-reads (g.T.Transcript.text_of c.args.form.now) c.args.rules reads _ _ _ c.in-Ok.ensures.script c.in-Ok-write_answers.ensures.done (many_entries _ c.events.result.now c.events.ensures c.if-events-gt-MOST_ENTRIES.true)
+    HistoryFull-reads (g.T.Transcript.text_of c.args.form.now) c.args.rules reads _ _ _ c.in-Ok.ensures.script c.in-Ok-write_answers.ensures.done (many_entries _ c.events.result.now c.events.ensures c.if-events-gt-MOST_ANSWERED.true)
 
 pub returns-in-Ok-2-clause-ends : goal.returns-in-Ok-2-clause-ends
 returns-in-Ok-2-clause-ends g c =
     let reads = reads_slice _ _ script_bounded _ _ _ _ c.as_slice-bytes.ensures.value c.in_ok-text.ensures.read c.in_ok-text.ensures.whole in
-    Done-reads (g.T.Transcript.text_of c.args.form.now) c.args.rules reads _ _ _ c.in-Ok.ensures.script c.in-Ok-2.ensures.done (few_entries _ c.events.result.now c.events.ensures c.if-events-gt-MOST_ENTRIES.false)
+    Done-reads (g.T.Transcript.text_of c.args.form.now) c.args.rules reads _ _ _ c.in-Ok.ensures.script c.in-Ok-2.ensures.done (few_entries _ c.events.result.now c.events.ensures c.if-events-gt-MOST_ANSWERED.false)
 
 pub returns-in-Err-Device-clause-begun : goal.returns-in-Err-Device-clause-begun
 returns-in-Err-Device-clause-begun g c =

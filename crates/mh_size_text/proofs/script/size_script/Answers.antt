@@ -8,12 +8,12 @@ use Rattle.mh_size_text.proofs.script.size_script.Goals as goal
 pub returns-in-Ok-write_size-clause-full : goal.returns-in-Ok-write_size-clause-full
 returns-in-Ok-write_size-clause-full g c = λ is.
     let reads = reads_slice _ _ script_bounded _ _ _ _ c.as_slice-bytes.ensures.value c.in_ok-text.ensures.read c.in_ok-text.ensures.whole in
-    sizes_many c.args.options.now reads _ _ _ c.in-Ok.ensures.script c.in-Ok-write_size.ensures.done (many_entries _ c.events.result.now c.events.ensures c.if-events-gt-MOST_ENTRIES.true)
+    sizes_many c.args.options.now reads _ _ _ c.in-Ok.ensures.script c.in-Ok-write_size.ensures.done (many_entries _ c.events.result.now c.events.ensures c.if-events-gt-MOST_ANSWERED.true)
 
 pub returns-in-Ok-2-clause-ends : goal.returns-in-Ok-2-clause-ends
 returns-in-Ok-2-clause-ends g c =
     let reads = reads_slice _ _ script_bounded _ _ _ _ c.as_slice-bytes.ensures.value c.in_ok-text.ensures.read c.in_ok-text.ensures.whole in
-    sizes_few c.args.options.now reads _ _ _ c.in-Ok.ensures.script c.in-Ok-2.ensures.done (few_entries _ c.events.result.now c.events.ensures c.if-events-gt-MOST_ENTRIES.false)
+    sizes_few c.args.options.now reads _ _ _ c.in-Ok.ensures.script c.in-Ok-2.ensures.done (few_entries _ c.events.result.now c.events.ensures c.if-events-gt-MOST_ANSWERED.false)
 
 pub returns-in-Err-Device-clause-begun : goal.returns-in-Err-Device-clause-begun
 returns-in-Err-Device-clause-begun g c = λ is.
