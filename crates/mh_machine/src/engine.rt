@@ -98,6 +98,7 @@ impl Engine {
     }
 
     /// Performs a command.
+    #[inline(always)]
     #[tactic(auto, unfolding(mh_model::specs::Machine::command_step))]
     fn command<P: Executor>(
         &mut self,
@@ -126,6 +127,7 @@ impl Engine {
     }
 
     /// Runs the quantum that is due, if one is.
+    #[inline(always)]
     fn run_due<P: Executor>(&mut self, config: &Config, executor: &mut P)
         requires config { config.now ≡ self.old.heap.kept.config }
         requires room { 0 < self.old.trace.room }
@@ -142,6 +144,7 @@ impl Engine {
     }
 
     /// Performs a command of the session `who`, and then runs the quantum that it makes due.
+    #[inline(always)]
     #[tactic(auto, unfolding(mh_model::specs::Machine::event_step, mh_model::specs::Deeds::account_of))]
     fn session<P: Executor>(
         &mut self,
@@ -169,6 +172,7 @@ impl Engine {
     }
 
     /// Runs a quantum on request, if the scheduler runs none.
+    #[inline(always)]
     #[tactic(auto, unfolding(mh_model::specs::Machine::control_step))]
     fn quantum_by_hand<P: Executor>(&mut self, config: &Config, executor: &mut P) -> Reply
         requires config { config.now ≡ self.old.heap.kept.config }
@@ -189,6 +193,7 @@ impl Engine {
     }
 
     /// Does a control.
+    #[inline(always)]
     #[tactic(auto, unfolding(mh_model::specs::Machine::control_step, mh_model::specs::Deeds::account_of))]
     fn control<P: Executor>(
         &mut self,
@@ -226,6 +231,7 @@ impl Engine {
     }
 
     /// Does an event with the quantum that it makes due.
+    #[inline(always)]
     #[tactic(auto, unfolding(mh_model::specs::Machine::event_step, mh_model::specs::Deeds::account_of))]
     pub(crate) fn event<P: Executor>(
         &mut self,

@@ -5,7 +5,7 @@
 //! a dump, and to a command or a quantum while the trace has no room for it. Both leave it as it was, and it stops for
 //! nothing else (`Stop`).
 //!
-//! All that grows with its events is the trace. `reserve` makes room for some, and then the next so many ask for no
+//! All that grows with its events is the trace. `reserve` makes room for some, and then none of the next so many is refused
 //! memory, but for dumps (`reserved_events_ask_for_no_memory`). `forget` empties the trace. Reports then count from
 //! there, and keep the promise of the configuration still; all else is as if nothing was forgotten.
 //!
@@ -97,6 +97,7 @@ impl Model for Machine {
 }
 
 /// The outcome of an event that there is room for: memory alone stops it.
+#[inline(always)]
 fn in_room(outcome: Result<Reply, Stop>) -> Result<Reply, NoMemory>
     requires room { ¬ IsErrOf outcome Stop.HistoryFull }
     ensures reply { IfOk result (λ reply. outcome ≡ Ok reply) }
@@ -124,6 +125,8 @@ impl Machine {
     }
 
     /// Does an event by an executor that was told nothing yet.
+    // A reply is as large as several commands take to write, so none of the calls that hand it on stands by itself.
+    #[inline(always)]
     #[tactic(auto, unfolding(mh_model::specs::Limits::most_events))]
     fn advance<P: Executor>(&mut self, event: Event, executor: &mut P) -> Result<Reply, Stop>
         requires fresh { P.tells nothing executor.old }
@@ -181,6 +184,8 @@ impl Machine {
     }
 
     /// Does an event as `step` does, for a caller who knows that a history has room for it: memory alone stops it.
+    // Whole scripts are run by it, so it is part of the loops that call it.
+    #[inline(always)]
     #[tactic(auto, unfolding(mh_model::specs::Limits::most_entries, mh_model::specs::Limits::most_events))]
     pub fn step_in_room<S: Scanner>(
         &mut self,
@@ -192,7 +197,7 @@ impl Machine {
         ensures stopped { OnErr result (self.new ≡ self.old) }
         ensures memory { OnErr result (MayAskForMemory self.old.room event) }
     {
-        in_room(self.step(event, scanner))
+        in_room(self.advance(event, &mut Plain { scanner }))
     }
 
     /// Does an event as `step_told` does, for a caller who knows that a history has room for it: memory alone stops it.
@@ -220,7 +225,7 @@ impl Machine {
         self.done < MOST_ENTRIES
     }
 
-    /// Makes room for the letters of so many events: then none of the next so many asks for memory, unless it is a dump, and
+    /// Makes room for the letters of so many events: then none of the next so many is refused memory, unless it is a dump, and
     /// so none of so many after each time that the trace is forgotten. There is room for the walks of reports too.
     pub fn reserve(&mut self, events: usize) -> Result<(), NoMemory>
         ensures reserved { OnOk result (Reserves events self.old self.new) }

@@ -1,7 +1,7 @@
-//! A law of the memory that a machine asks for once there is room for events.
+//! A law of the memory that is refused to events once a machine has room for them.
 ghost use Rattle.mh_machine.specs.Reserved.{ReservedEventsAskForNoMemory};
 
-/// Where there is room for some events, the first so many ask for no memory, but for dumps.
+/// Where there is room for some events, none of the first so many is refused memory, unless it is a dump.
 pub fn reserved_events_ask_for_no_memory()
     ensures { ReservedEventsAskForNoMemory }
 {}

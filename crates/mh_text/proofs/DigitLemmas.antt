@@ -23,6 +23,10 @@ value_next n place text below digit =
     let one : 1 + prefix_len is_digit rest ≡ suc (prefix_len is_digit rest) = omega arith in
     rw (add-one, drop-cons text place 0, digit, one) refl
 
+pub value_step : (n v place : ℕ) (text : Text) → place < length text → v ≡ 10 * n + (get_or text place 0 - 48) → is_digit (get_or text place 0) ≡ true
+    → value_after n (take_while is_digit (drop place text)) ≡ value_after v (take_while is_digit (drop (place + 1) text))
+value_step n v place text below is digit = value_next n place text below digit ∙ ap (λ m. value_after m (take_while is_digit (drop (place + 1) text))) (sym is)
+
 pub count_next : (place : ℕ) (text : Text) → place < length text → is_digit (get_or text place 0) ≡ true
     → prefix_len is_digit (drop place text) ≡ 1 + prefix_len is_digit (drop (place + 1) text)
 count_next place text below digit = rw (add-one, drop-cons text place 0, digit) refl
@@ -94,7 +98,7 @@ not_numeral (byte ∷ next ∷ bytes) none = not_all_by (is_digit byte) (not (by
 
 -- The number that a word is ----------------------------------------------------------------------
 
-number_is : (word : Text) (value : ℕ) → is_numeral word ≡ true → value ≡ value_after 0 word → value < 2 ^ 64 → number word ≡ Some value
+pub number_is : (word : Text) (value : ℕ) → is_numeral word ≡ true → value ≡ value_after 0 word → value < 2 ^ 64 → number word ≡ Some value
 number_is word value numeral is small =
     let below : nat_lt (value_after 0 word) (2 ^ 64) ≡ true = grind (arith, nat_tests) in
     rw (numeral, below, ← is) refl

@@ -8,6 +8,7 @@ pub mod FormLemmas
 pub mod LineLemmas
 pub mod NamePlaces
 pub mod NameLemmas
+pub mod PlainLemmas
 pub mod ScriptLemmas
 pub mod ReplyLemmas
 pub mod ErrorLemmas

@@ -1,14 +1,14 @@
 -- The place of a name among those seen.
-use Rattle.std.proofs.Common.{◌≡◌, ℕ, ◌+◌, ◌<◌, ◌≤◌, ◌==◌, nat_lt, nat_le, nat_eq, ◌&&◌, ◌||◌, not, Bool, true, false, cond, Some, None, List, [], ◌∷◌, ◌++◌, length, length-append, ap, subst, sym, refl, ◌∙◌, arith}
-use Rattle.std.specs.Prelude.{if◌then◌else◌}
+use Rattle.std.proofs.Common.{◌≡◌, ℕ, zero, suc, ◌+◌, ◌<◌, ◌≤◌, ◌==◌, nat_lt, nat_le, nat_eq, ◌&&◌, ◌||◌, not, Bool, true, false, cond, Option, Some, None, is_none, List, [], ◌∷◌, ◌++◌, length, length-append, get_or, set, ap, subst, sym, refl, ◌∙◌, arith}
+use Rattle.std.specs.Prelude.{if◌then◌else◌, IfSome}
 use Rattle.std.specs.Cmp.Lexicographic.{pointwise, nat_list_eq_equiv}
-use Rattle.std.specs.List.{list_any, position}
+use Rattle.std.specs.List.{list_all, list_any, position}
 use Rattle.std.proofs.lemmas.List.{map-append}
 use Rattle.std.specs.Borrow.{Bor}
 use Rattle.std.proofs.lemmas.Bool.Decides.{nat_tests}
-use Rattle.mh_model.specs.Bytes.{Text, is_text}
+use Rattle.mh_model.specs.Bytes.{Text, is_text, is_name}
 use Rattle.mh_model.specs.Script.{session_number, with_name}
-use Rattle.mh_text.specs.Names.{names_shown, IsNumbered}
+use Rattle.mh_text.specs.Names.{names_shown, IsKnown, AreKnown}
 use Rattle.mh_text.proofs.NamePlaces.{place, place_le_by, place_shown, number_found, number_missing}
 use Rattle.mh_model.proofs.TextLemmas.{text_is, text_itself}
 use Rattle.indexmap.specs.IndexSet.{insert_key}
@@ -102,14 +102,69 @@ settled_by false false names name is past =
 settled : (names : List Text) (name : Text) → IsSettled names (with_name names name) name
 settled names name = settled_by (nat_lt (session_number names name) (length names)) (nat_le 8 (length names)) names name refl refl
 
-pub numbered_name : (names after : List Text) (name : Bor (List ℕ)) (number : ℕ) → number ≡ session_number names name.now → after ≡ with_name names name.now → IsNumbered after (Some (name, number))
-numbered_name names after name number is same =
-    let kept = settled names name.now in
-    subst (λ (after : List Text). IsNumbered after (Some (name, number))) (sym same) (kept.0 ∙ sym is, kept.1)
+pub settled_name : (names after : List Text) (name : Text) (who : ℕ) → who ≡ session_number names name → after ≡ with_name names name → is_name name ≡ true → IsKnown after name who
+settled_name names after name who is same named =
+    let kept = settled names name in
+    subst (λ (after : List Text). IsKnown after name who) (sym same) (named, (kept.0 ∙ sym is, kept.1))
 
--- the name that was looked up last is looked up again
-pub again : (names : List Text) (seen : Bor (List ℕ)) (number : ℕ) (name : Text) → IsNumbered names (Some (seen, number)) → is_text seen.now name ≡ true
-    → (number ≡ session_number names name) × (names ≡ with_name names name)
-again names seen number name last is =
-    let same : seen.now ≡ name = text_is seen.now name is in
-    (sym last.0 ∙ ap (session_number names) same, sym last.1 ∙ ap (with_name names) same)
+-- A name that is known stays so ------------------------------------------------------------------
+
+prefix_by : (is : Bool) (n k count : ℕ) → (n < count → k ≡ n) → cond (not is) (1 + n) 0 < suc count → cond (not is) (1 + k) 0 ≡ cond (not is) (1 + n) 0
+prefix_by true n k count same below = refl
+prefix_by false n k count same below = ap (λ (m : ℕ). 1 + m) (same (omega arith))
+
+number_prefix : (names more : List Text) (name : Text) → session_number names name < length names → session_number (names ++ more) name ≡ session_number names name
+number_prefix [] more name below = absurd (omega arith)
+number_prefix (x ∷ names) more name below = prefix_by (is_text x name) (session_number names name) (session_number (names ++ more) name) (length names) (number_prefix names more name) below
+
+longer : (names : List Text) (name : Text) → names ++ name ∷ [] ≡ names → ⊥
+longer names name same =
+    let count : length (names ++ name ∷ []) ≡ length names + 1 = length-append names (name ∷ []) in
+    let equal : length (names ++ name ∷ []) ≡ length names = ap length same in
+    omega arith
+
+seen_by : (known : Bool) (names : List Text) (name : Text) → nat_lt (session_number names name) (length names) ≡ known → nat_le 8 (length names) ≡ false → with_name names name ≡ names → session_number names name < length names
+seen_by true names name is past same = grind (arith, nat_tests)
+seen_by false names name is past same = absurd (longer names name (sym (with_name_by false false names name is past) ∙ same))
+
+known_by : (seen full : Bool) (names : List Text) (other name : Text) (who : ℕ) → nat_lt (session_number names other) (length names) ≡ seen → nat_le 8 (length names) ≡ full → IsKnown names name who → IsKnown (with_name names other) name who
+known_by true full names other name who is past known = subst (λ (after : List Text). IsKnown after name who) (sym (with_name_by true full names other is past)) known
+known_by false true names other name who is past known = subst (λ (after : List Text). IsKnown after name who) (sym (with_name_by false true names other is past)) known
+known_by false false names other name who is past known =
+    let same : with_name names other ≡ names ++ other ∷ [] = with_name_by false false names other is past in
+    let below : session_number names name < length names = seen_by _ names name refl past known.1.1 in
+    let number = number_prefix names (other ∷ []) name below in
+    let count : length (names ++ other ∷ []) ≡ length names + 1 = length-append names (other ∷ []) in
+    let there : nat_lt (session_number (names ++ other ∷ []) name) (length (names ++ other ∷ [])) ≡ true = grind (arith, nat_tests) in
+    let kept = with_name_by true _ (names ++ other ∷ []) name there refl in
+    subst (λ (after : List Text). IsKnown after name who) (sym same) (known.0, (number ∙ known.1.0, kept))
+
+known_more : (names : List Text) (other : Text) (it : Option (Bor (List ℕ) × ℕ)) → IfSome it (λ numbered. IsKnown names numbered.0.now numbered.1) → IfSome it (λ numbered. IsKnown (with_name names other) numbered.0.now numbered.1)
+known_more names other None known = tt
+known_more names other (Some numbered) known = known_by _ _ names other numbered.0.now numbered.1 refl refl known
+
+-- The table of names that were looked up ---------------------------------------------------------
+
+pub none_known : (names : List Text) (table : List (Option (Bor (List ℕ) × ℕ))) → list_all is_none table ≡ true → AreKnown names table
+none_known names [] all place = tt
+none_known names (None ∷ table) all zero = tt
+none_known names (None ∷ table) all (suc place) = none_known names table all place
+none_known names (Some numbered ∷ table) all place = cc
+
+pub all_known : (names after : List Text) (other : Text) (table : List (Option (Bor (List ℕ) × ℕ))) → after ≡ with_name names other → AreKnown names table → AreKnown after table
+all_known names after other table same known = subst (λ (after : List Text). AreKnown after table) (sym same) (λ place. known_more names other (get_or table place None) (known place))
+
+pub set_known : (names : List Text) (table : List (Option (Bor (List ℕ) × ℕ))) (place : ℕ) (name : Bor (List ℕ)) (who : ℕ) → AreKnown names table → IsKnown names name.now who → AreKnown names (set table place (Some (name, who)))
+set_known names [] place name who known is at = known at
+set_known names (it ∷ table) zero name who known is zero = is
+set_known names (it ∷ table) zero name who known is (suc at) = known (suc at)
+set_known names (it ∷ table) (suc place) name who known is zero = known zero
+set_known names (it ∷ table) (suc place) name who known is (suc at) = set_known names table place name who (λ (at : ℕ). known (suc at)) is at
+
+-- a name of the table is looked up again
+pub again : (names : List Text) (it : Option (Bor (List ℕ) × ℕ)) (seen : Bor (List ℕ)) (who : ℕ) (name : Text) → IfSome it (λ numbered. IsKnown names numbered.0.now numbered.1) → it ≡ Some (seen, who) → is_text seen.now name ≡ true
+    → (who ≡ session_number names name) × (names ≡ with_name names name)
+again names it seen who name known is same =
+    let text : seen.now ≡ name = text_is seen.now name same in
+    let there : IsKnown names seen.now who = subst (λ (it : Option (Bor (List ℕ) × ℕ)). IfSome it (λ numbered. IsKnown names numbered.0.now numbered.1)) is known in
+    (sym there.1.0 ∙ ap (session_number names) text, sym there.1.1 ∙ ap (with_name names) text)

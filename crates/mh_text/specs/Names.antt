@@ -1,7 +1,7 @@
 -- The names of sessions that were seen.
-use Rattle.std.specs.Prelude.{◌≡◌, ℕ, Option, IfSome, List, [], ◌∷◌, map}
+use Rattle.std.specs.Prelude.{◌≡◌, ℕ, true, Option, None, IfSome, List, [], ◌∷◌, get_or, map}
 use Rattle.std.specs.Borrow.{Bor}
-use Rattle.mh_model.specs.Bytes.{Text, cut_after}
+use Rattle.mh_model.specs.Bytes.{Text, is_name, cut_after}
 use Rattle.mh_model.specs.Script.{Line, Blank, Calls, Asks, Wrong, line_of, session_number, with_name}
 
 -- the names of the sessions that these lines call, after some that were seen before: in the order in which they are first seen, eight at most
@@ -20,6 +20,10 @@ names_in text = names_from [] (map line_of (cut_after 10 text).pieces)
 abbrev pub names_shown : List (Bor (List ℕ)) → List Text
 names_shown names = map (λ name. name.now) names
 
--- a name that is new no more, with its number, if there is one
-abbrev pub IsNumbered : List Text → Option (Bor (List ℕ) × ℕ) → Type 0
-IsNumbered names last = IfSome last (λ numbered. (session_number names numbered.0.now ≡ numbered.1) × (with_name names numbered.0.now ≡ names))
+-- a name that may name a session and is new no more, with its number
+abbrev pub IsKnown : List Text → Text → ℕ → Type 0
+IsKnown names name who = (is_name name ≡ true) × ((session_number names name ≡ who) × (with_name names name ≡ names))
+
+-- each name of a table is known, with the number that stands beside it
+abbrev pub AreKnown : List Text → List (Option (Bor (List ℕ) × ℕ)) → Type 0
+AreKnown names table = (place : ℕ) → IfSome (get_or table place None) (λ numbered. IsKnown names numbered.0.now numbered.1)

@@ -9,6 +9,7 @@ pub mod forms;
 pub mod line;
 pub mod names;
 pub mod pieces;
+pub(crate) mod plain;
 pub mod reply_line;
 pub mod reply_text;
 pub mod script;

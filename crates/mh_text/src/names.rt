@@ -2,15 +2,17 @@
 //!
 //! The first eight are kept in a set, in the order in which they are seen. The ninth and all later ones are the same
 //! session. Room for eight is made at the first name, so a text that is refused before its first event takes no memory
-//! for names. The name that was looked up last is tried first, so a script of one session looks it up in the set once.
-ghost use Rattle.std.specs.Prelude.{◌≡◌, ◌+◌, ◌<◌, ◌≤◌, ◌^◌, [], length, IfOk, OnOk, OnErr};
+//! for names. Names that were looked up stand in a table too, by their first two bytes, which is tried first.
+ghost use Rattle.std.specs.Prelude.{◌≡◌, ◌+◌, ◌<◌, ◌≤◌, ◌^◌, true, is_none, [], length, IfOk, IfSome, OnOk, OnErr};
+ghost use Rattle.std.specs.List.{list_all};
 ghost use Rattle.mh_model.specs.Bytes.{is_text};
 ghost use Rattle.mh_model.specs.Script.{session_number, with_name};
 ghost use Rattle.mh_text.specs.Names.{names_in, names_shown};
+ghost use Rattle.mh_text.specs.Plain.{BeginsWithName};
 
 use crate::line::{Line, line_of};
 use crate::pieces::Lines;
-use crate::word::is_word;
+use crate::word::{is_name, is_word};
 use indexmap::IndexSet;
 use mh_model::limits::SESSIONS;
 use mh_model::memory::NoMemory;
@@ -20,22 +22,49 @@ use std::marker::Model;
 /// How many names are distinguished.
 const NAMES: usize = SESSIONS;
 
-/// The first names of sessions that a script has, eight at most, and the name that was looked up last.
+/// How many places the table of names that were looked up has.
+const PLACES: usize = 64;
+
+/// The place in the table of a name that begins with these bytes. A name of one byte is followed by a space.
+fn place_by(first: u8, second: u8) -> usize
+    ensures { result < 64 }
+{
+    usize::from(first.wrapping_add(second)) % PLACES
+}
+
+/// The place of a name in the table.
+fn place_of(name: &[u8]) -> usize
+    ensures { result < 64 }
+{
+    match *name {
+        [] => 0,
+        [first] => place_by(first, b' '),
+        [first, second, ..] => place_by(first, second),
+    }
+}
+
+fn empty_table<'a>() -> [Option<(&'a [u8], u8)>; PLACES]
+    ensures { list_all is_none result ≡ true }
+{
+    [None; PLACES]
+}
+
+/// The first names of sessions that a script has, eight at most, and a table of names that were looked up.
 #[derive(Drop)]
 pub struct Names<'a> {
     seen: IndexSet<&'a [u8]>,
-    last: Option<(&'a [u8], u8)>,
+    table: [Option<(&'a [u8], u8)>; PLACES],
 }
 
 impl<'a> Model for Names<'a> {
     ghost use Rattle.std.specs.Prelude.{List, ℕ, ◌≤◌, length};
-    ghost use Rattle.mh_text.specs.Names.{names_shown, IsNumbered};
+    ghost use Rattle.mh_text.specs.Names.{names_shown, AreKnown};
 
     ghost Value = { List (List ℕ) };
 
     ghost view = { λ names. names_shown names.seen.keys };
 
-    ghost invariant = { λ names. (length names.seen.keys ≤ 8) × IsNumbered (names_shown names.seen.keys) names.last };
+    ghost invariant = { λ names. (length names.seen.keys ≤ 8) × AreKnown (names_shown names.seen.keys) names.table };
 }
 
 impl<'a> Names<'a> {
@@ -44,7 +73,7 @@ impl<'a> Names<'a> {
     {
         Names {
             seen: IndexSet::new(alloc),
-            last: None,
+            table: empty_table(),
         }
     }
 
@@ -54,14 +83,35 @@ impl<'a> Names<'a> {
         ensures seen { OnOk result (self.new ≡ with_name self.old name.now) }
         ensures unchanged { OnErr result (self.new ≡ self.old) }
     {
-        if let Some((last, number)) = self.last
-            && is_word(last, name)
+        let place = place_of(name);
+        if let Some((known, number)) = self.table[place]
+            && is_word(known, name)
         {
             return Ok(number);
         }
         let number = number_in(&mut self.seen, name)?;
-        self.last = Some((name, number));
+        if is_name(name) {
+            self.table[place] = Some((name, number));
+        }
         Ok(number)
+    }
+
+    /// The number of the name that a text begins with before a space, if it stands in the table, and what follows that.
+    #[inline(always)]
+    pub(crate) fn leading<'b>(&self, text: &'b [u8]) -> Option<(u8, &'b [u8])>
+        ensures some { IfSome result (λ found. BeginsWithName self.now text.now found.0 found.1.now) }
+        ensures shorter { IfSome result (λ found. length found.1.now < length text.now) }
+    {
+        let [first, second, ..] = *text else {
+            return None;
+        };
+        let (name, number) = self.table[place_by(first, second)]?;
+        let count = name.len();
+        if count < text.len() && text[count] == b' ' && is_word(name, &text[..count]) {
+            Some((number, &text[count + 1..]))
+        } else {
+            None
+        }
     }
 
     /// The names in the order in which they were first seen.

@@ -132,8 +132,8 @@ impl<'a> Words<'a> {
 /// The lines of a text that are left, with their numbers from 1.
 #[derive(Debug, Drop)]
 pub struct Lines<'a> {
-    text: &'a [u8],
-    number: u64,
+    pub(crate) text: &'a [u8],
+    pub(crate) number: u64,
 }
 
 impl<'a> Model for Lines<'a> {

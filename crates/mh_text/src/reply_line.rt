@@ -15,6 +15,7 @@ use mh_model::reply::{Refusal, Reply};
 use std::fmt::Write;
 
 /// Adds the line of a reply to a text. After an error the text may end with a part of the line.
+#[inline(always)]
 pub fn push_reply_line(text: &mut String, reply: &Reply) -> Result<(), NoMemory>
     ensures { OnOk result (string_bytes text.new ≡ string_bytes text.old ++ line_text (reply_text reply.now)) }
 {

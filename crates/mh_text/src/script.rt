@@ -1,7 +1,8 @@
 //! Scripts as texts. A text is a script with this configuration and these events exactly when the grammar says so.
 //! Otherwise its first bad line is named. Out of memory is answered only if the text begins with an event (`memory`).
-ghost use Rattle.std.specs.Prelude.{◌≡◌, ◌≢◌, IfOk, IfErr, IsErrOf};
+ghost use Rattle.std.specs.Prelude.{◌≡◌, ◌≢◌, [], IfOk, IfErr, IfSome, IfNone, IsErrOf};
 ghost use Rattle.mh_model.specs.Script.{Means, reading};
+ghost use Rattle.mh_text.specs.Taken.{Takes};
 ghost use Rattle.mh_text.specs.Reading.{TakesConfig, HasEvent, BeginsWithEvent, script_left, events_left};
 ghost use Rattle.mh_text.specs.TextErrors.{Refuses};
 
@@ -78,6 +79,26 @@ fn config_from(lines: &mut Lines<'_>) -> Result<Config, TextError>
     Err(TextError::Line(lines.number()))
 }
 
+/// What is taken of a script at once: a command in its plain form, as an event, or else a line, with its number.
+enum Taken<'a> {
+    Plain(Event),
+    Line(u64, &'a [u8]),
+}
+
+/// Takes the next line.
+#[inline(always)]
+fn take_next<'a>(lines: &mut Lines<'a>, names: &Names<'_>) -> Option<Taken<'a>>
+    ensures next { IfSome result (λ taken. Takes names.now lines.old lines.new taken) }
+    ensures end { IfNone result (lines.old.lines ≡ []) }
+    ensures same { IfNone result (lines.new ≡ lines.old) }
+{
+    if let Some(event) = lines.next_plain(names) {
+        return Some(Taken::Plain(event));
+    }
+    let (number, line) = lines.next_line()?;
+    Some(Taken::Line(number, line))
+}
+
 /// Reads the lines after the configuration.
 fn events_from(alloc: Global, mut lines: Lines<'_>) -> Result<Vec<Event>, TextError>
     ensures events { IfOk result (λ events. events_left lines.entry ≡ Means events.items) }
@@ -86,15 +107,18 @@ fn events_from(alloc: Global, mut lines: Lines<'_>) -> Result<Vec<Event>, TextEr
 {
     let mut events = Vec::new(alloc);
     let mut names = Names::new(alloc);
-    while let Some((number, line)) = lines.next_line() {
-        match line_of(line) {
-            Line::Blank => {}
-            Line::Calls(name, command) => {
-                let who = names.number(name)?;
-                events.push(Event::Session(who, command))?;
-            }
-            Line::Asks(control) => events.push(Event::Control(control))?,
-            Line::Wrong => return Err(TextError::Line(number)),
+    while let Some(taken) = take_next(&mut lines, &names) {
+        match taken {
+            Taken::Plain(event) => events.push(event)?,
+            Taken::Line(number, line) => match line_of(line) {
+                Line::Blank => {}
+                Line::Calls(name, command) => {
+                    let who = names.number(name)?;
+                    events.push(Event::Session(who, command))?;
+                }
+                Line::Asks(control) => events.push(Event::Control(control))?,
+                Line::Wrong => return Err(TextError::Line(number)),
+            },
         }
     }
     if lines.is_empty() {

@@ -1,17 +1,20 @@
-use Rattle.std.proofs.Common.{sym, subst}
-use Rattle.mh_text.specs.Names.{names_shown, IsNumbered}
-use Rattle.mh_text.proofs.NameLemmas.{numbered_name, again}
+use Rattle.std.proofs.Common.{sym}
+use Rattle.mh_text.proofs.NameLemmas.{again, all_known, set_known, settled_name}
 use Rattle.mh_text.proofs.names.Names.number.Goals as goal
+
+pub invariant_of-self-then-is_name : goal.invariant_of-self-then-is_name
+invariant_of-self-then-is_name c = (
+  c.in_ok-number.ensures.few,
+  set_known _ _ c.place_of-place.result _ _ (all_known _ _ _ _ c.in_ok-number.ensures.seen c.self.invariant.1) (settled_name _ _ _ _ c.in_ok-number.ensures.number c.in_ok-number.ensures.seen (sym c.if-is_name.ensures)),
+)
+
+pub invariant_of-self-else-is_name : goal.invariant_of-self-else-is_name
+invariant_of-self-else-is_name c = (c.in_ok-number.ensures.few, all_known _ _ _ _ c.in_ok-number.ensures.seen c.self.invariant.1)
 
 pub returns-clause-number : goal.returns-clause-number
 returns-clause-number c =
-    let last = subst (IsNumbered (names_shown c.self.inside.seen.keys)) c.in-Some.is c.self.invariant.1 in
-    rw (← c.self.view_is) (again _ c.in-Some.last _ _ last (sym c.if-is_word.ensures)).0
+    rw (← c.self.view_is) (again _ _ _ _ _ (c.self.invariant.1 c.place_of-place.result) c.in-Some.is (sym c.if-is_word.ensures)).0
 
 pub returns-clause-seen : goal.returns-clause-seen
 returns-clause-seen c =
-    let last = subst (IsNumbered (names_shown c.self.inside.seen.keys)) c.in-Some.is c.self.invariant.1 in
-    rw (← c.self.view_is) (again _ c.in-Some.last _ _ last (sym c.if-is_word.ensures)).1
-
-pub invariant_of-self-2 : goal.invariant_of-self-2
-invariant_of-self-2 c = (c.in_ok-number.ensures.few, numbered_name _ _ c.args.name _ c.in_ok-number.ensures.number c.in_ok-number.ensures.seen)
+    rw (← c.self.view_is) (again _ _ _ _ _ (c.self.invariant.1 c.place_of-place.result) c.in-Some.is (sym c.if-is_word.ensures)).1
