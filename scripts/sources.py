@@ -89,6 +89,12 @@ def owners(text):
         yield found[1] is not None, re.match(r"\s*(?:\w+::)*(\w+)", head)[1], found.start(), closing(text, start)
 
 
+def without_hidden(head, clauses):
+    """The clauses of a function without the names of its parameters, which hide imports. Names of clauses stay."""
+    names = re.findall(r"[(,]\s*(?:mut )?(\w+):", head)
+    return re.sub(rf"\b(?:{'|'.join(names)})\b(?! \{{)", "", clauses) if names else clauses
+
+
 def calls(text):
     """The public calls of a file with their clauses, and types and traits with theirs."""
     blocks = list(owners(text))
@@ -99,7 +105,8 @@ def calls(text):
             said = signature(text, found.start(1))
             clauses = re.search(r"\b(?:requires|ensures)\b", said)
             if clauses:
-                yield f"{within[1]}::{name}" if within else name, said[clauses.start():]
+                shown = without_hidden(said[:clauses.start()], said[clauses.start():])
+                yield f"{within[1]}::{name}" if within else name, shown
     for found in TYPE.finditer(text):
         end = closing(text, text.find("{", found.end())) if "{" in text[found.end():] else found.end()
         ghosts = GHOST.findall(text[found.start():end])

@@ -4,7 +4,7 @@ ghost use Rattle.std.specs.Prelude.{◌≡◌, ◌⊎◌, ◌≤◌};
 ghost use Rattle.mh_embed.specs.Numbers.{command_numbered, control_numbered, event_numbered};
 
 use crate::numbers::EventNumbers;
-use mh_live::mh_text::forms::small;
+use mh_live::mh_text::word::small;
 use mh_model::command::{Command, Control, Event};
 
 /// A command with three numbers: `new`, `get`, `put` or `write`.

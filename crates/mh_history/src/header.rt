@@ -3,9 +3,8 @@ ghost use Rattle.std.specs.Prelude.{◌≡◌, ◌∷◌, [], option_and_then};
 ghost use Rattle.mh_model.specs.HistoryTexts.{header_of, header_by};
 
 use mh_model::config::Config;
-use mh_text::forms::small;
 use mh_text::pieces::Words;
-use mh_text::word::{is_word, number, numbers};
+use mh_text::word::{is_word, number, numbers, small};
 
 /// The configuration that the words of a history's first line are, in version 2. None if they are none, or outside the
 /// limits.

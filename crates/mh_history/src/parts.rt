@@ -9,9 +9,8 @@ ghost use Rattle.mh_text.specs.Names.{names_shown};
 use mh_model::cycle::Phase;
 use mh_model::reply::Refusal;
 use mh_model::shape::Shape;
-use mh_text::forms::small;
 use mh_text::pieces::Words;
-use mh_text::word::{is_word, number, numbers};
+use mh_text::word::{is_word, number, numbers, small};
 
 /// Whether the words are these.
 #[tactic(auto, using(crate::proofs::PartLemmas::shown_next))]

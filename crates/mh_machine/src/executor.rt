@@ -45,6 +45,8 @@ pub(crate) struct Plain<'a, S> {
 impl<'a, S: Scanner> Executor for Plain<'a, S> {
     ghost tells = { λ _ _. Unit {0} };
 
+    // A script is run by this one: its reply is not to go through memory.
+    #[inline(always)]
     fn perform(&mut self, heap: &mut PagedHeap, who: u8, command: &Command) -> Reply {
         heap.perform(who, command)
     }

@@ -5,6 +5,7 @@ ghost use Rattle.std.specs.Prelude.{◌≡◌, ◌+◌, ◌<◌, ◌≤◌, ◌^
 ghost use Rattle.std.specs.String.{string_bytes};
 ghost use Rattle.std.specs.Io.KnownBytes.{Appends};
 ghost use Rattle.mh_model.specs.Limits.{most_entries};
+ghost use Rattle.mh_model.specs.declared.command.Event.TheVariants as events;
 ghost use Rattle.mh_model.specs.Machine.{event_step, machine_after, machine_replies};
 ghost use Rattle.mh_model.specs.Replies.{replies_text};
 ghost use Rattle.mh_text.specs.Stream.{AppendsBeginning};
@@ -13,14 +14,15 @@ use crate::fault::WriteError;
 use crate::texts::{flush, flush_full};
 use mh_machine::machine::Machine;
 use mh_machine::mh_scan::scan::Scanner;
-use mh_model::command::Event;
+use mh_model::command::{Control, Event};
 use mh_model::memory::NoMemory;
 use mh_text::reply_line::push_reply_line;
 use mh_text::sink::Sink;
 use std::alloc::Global;
 
 /// Does an event, and adds the line of its reply to the text.
-fn answer<S: Scanner>(
+#[inline(always)]
+fn answer_event<S: Scanner>(
     machine: &mut Machine,
     event: Event,
     scanner: &mut S,
@@ -33,6 +35,44 @@ fn answer<S: Scanner>(
 {
     let reply = machine.step_in_room(event, scanner)?;
     push_reply_line(text, &reply)
+}
+
+/// Does a control as `answer_event` does it, but apart from the loop over events.
+#[inline(never)]
+fn answer_control<S: Scanner>(
+    machine: &mut Machine,
+    control: Control,
+    scanner: &mut S,
+    text: &mut String,
+) -> Result<(), NoMemory>
+    requires { machine.old.done < most_entries }
+    ensures machine { OnOk result (machine.new.machine ≡ (event_step machine.old.machine (events.Control control)).state) }
+    ensures count { OnOk result (machine.new.done ≡ suc machine.old.done) }
+    ensures text { OnOk result (string_bytes text.new ≡ string_bytes text.old ++ replies_text ((event_step machine.old.machine (events.Control control)).reply ∷ [])) }
+{
+    answer_event(machine, Event::Control(control), scanner, text)
+}
+
+/// Does an event, and adds the line of its reply to the text.
+// A dump or a report lies in memory. What a command answers shares no place with one, so it stays in registers.
+#[inline(always)]
+fn answer<S: Scanner>(
+    machine: &mut Machine,
+    event: Event,
+    scanner: &mut S,
+    text: &mut String,
+) -> Result<(), NoMemory>
+    requires { machine.old.done < most_entries }
+    ensures machine { OnOk result (machine.new.machine ≡ (event_step machine.old.machine event).state) }
+    ensures count { OnOk result (machine.new.done ≡ suc machine.old.done) }
+    ensures text { OnOk result (string_bytes text.new ≡ string_bytes text.old ++ replies_text ((event_step machine.old.machine event).reply ∷ [])) }
+{
+    match event {
+        Event::Session(who, command) => {
+            answer_event(machine, Event::Session(who, command), scanner, text)
+        }
+        Event::Control(control) => answer_control(machine, control, scanner, text),
+    }
 }
 
 /// Does the events in turn, and writes the lines of their replies.

@@ -41,31 +41,11 @@ end_said verb ns none is = no_said verb ns none ∙ rw is refl
 pub one_counted : (verb : Text) (a : ℕ) → said command_rows verb (a ∷ []) ≡ said one_rows verb (a ∷ [])
 one_counted verb a = said_counted command_rows verb (a ∷ []) refl
 
-pub one_said : (verb : Text) (ns : List ℕ) (slot : ℕ) → length ns ≡ 1 → within (nat_lt (get_or ns 0 0) u32) (get_or ns 0 0) ≡ Some slot → said command_rows verb ns ≡ said one_rows verb (slot ∷ [])
-one_said verb [] slot one small = absurd (omega arith)
-one_said verb (a ∷ []) slot one small = rw (small_same a slot small) (one_counted verb a)
-one_said verb (a ∷ b ∷ ns) slot one small = absurd (omega arith)
-
 pub two_counted : (verb : Text) (a b : ℕ) → said command_rows verb (a ∷ b ∷ []) ≡ said two_rows verb (a ∷ b ∷ [])
 two_counted verb a b = said_counted command_rows verb (a ∷ b ∷ []) refl
 
-pub two_said : (verb : Text) (ns : List ℕ) (first second : ℕ) → length ns ≡ 2 → within (nat_lt (get_or ns 0 0) u32) (get_or ns 0 0) ≡ Some first → within (nat_lt (get_or ns 1 0) u32) (get_or ns 1 0) ≡ Some second
-    → said command_rows verb ns ≡ said two_rows verb (first ∷ second ∷ [])
-two_said verb [] first second two x y = absurd (omega arith)
-two_said verb (a ∷ []) first second two x y = absurd (omega arith)
-two_said verb (a ∷ b ∷ []) first second two x y = rw (small_same a first x, small_same b second y) (two_counted verb a b)
-two_said verb (a ∷ b ∷ c ∷ ns) first second two x y = absurd (omega arith)
-
 pub three_counted : (verb : Text) (a b c : ℕ) → said command_rows verb (a ∷ b ∷ c ∷ []) ≡ said three_rows verb (a ∷ b ∷ c ∷ [])
 three_counted verb a b c = said_counted command_rows verb (a ∷ b ∷ c ∷ []) refl
-
-pub three_said : (verb : Text) (ns : List ℕ) (first second : ℕ) → length ns ≡ 3 → within (nat_lt (get_or ns 0 0) u32) (get_or ns 0 0) ≡ Some first → within (nat_lt (get_or ns 1 0) u32) (get_or ns 1 0) ≡ Some second
-    → said command_rows verb ns ≡ said three_rows verb (first ∷ second ∷ get_or ns 2 0 ∷ [])
-three_said verb [] first second three x y = absurd (omega arith)
-three_said verb (a ∷ []) first second three x y = absurd (omega arith)
-three_said verb (a ∷ b ∷ []) first second three x y = absurd (omega arith)
-three_said verb (a ∷ b ∷ c ∷ []) first second three x y = rw (small_same a first x, small_same b second y) (three_counted verb a b c)
-three_said verb (a ∷ b ∷ c ∷ d ∷ ns) first second three x y = absurd (omega arith)
 
 -- Controls ---------------------------------------------------------------------------------------
 

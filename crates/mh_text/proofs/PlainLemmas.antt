@@ -7,12 +7,12 @@ use Rattle.std.proofs.lemmas.Bool.{and_parts}
 use Rattle.std.proofs.lemmas.Bool.Decides.{nat_tests}
 use Rattle.mh_model.specs.declared.command.Command.{Command}
 use Rattle.mh_model.specs.declared.command.Event.TheVariants as event
-use Rattle.mh_text.specs.declared.plain.Three.{Three}
-use Rattle.mh_text.specs.declared.plain.Three.TheVariants.{New, Get, Put, Write}
-use Rattle.mh_text.specs.declared.plain.Two.{Two}
-use Rattle.mh_text.specs.declared.plain.Two.TheVariants.{Copy, Read, Same, Post, Take}
-use Rattle.mh_text.specs.declared.plain.One.{One}
-use Rattle.mh_text.specs.declared.plain.One.TheVariants.{Clear, Shape}
+use Rattle.mh_text.specs.declared.verbs.VerbOfThree.{VerbOfThree}
+use Rattle.mh_text.specs.declared.verbs.VerbOfThree.TheVariants.{New, Get, Put, Write}
+use Rattle.mh_text.specs.declared.verbs.VerbOfTwo.{VerbOfTwo}
+use Rattle.mh_text.specs.declared.verbs.VerbOfTwo.TheVariants.{Copy, Read, Same, Post, Take}
+use Rattle.mh_text.specs.declared.verbs.VerbOfOne.{VerbOfOne}
+use Rattle.mh_text.specs.declared.verbs.VerbOfOne.TheVariants.{Clear, Shape}
 use Rattle.mh_model.specs.Bytes.{Text, Cut, cut_after, with_byte, words, is_text, is_digit, is_letter, is_numeral, is_name, value_after, number}
 use Rattle.mh_model.specs.Forms.{command_of}
 use Rattle.mh_model.specs.Script as book
@@ -20,7 +20,8 @@ use Rattle.mh_text.specs.Pieces.{lines_from, with_piece}
 use Rattle.mh_text.specs.Names.{IsKnown}
 use Rattle.mh_text.specs.Rows.{said, one_rows, two_rows, three_rows}
 use Rattle.mh_text.specs.Words.{few_numbers}
-use Rattle.mh_text.specs.Plain.{BeginsWithLine, BeginsWithCommand, BeginsWithName, BeginsWithNumberBefore, TakesEvent, one_word, two_word, three_word}
+use Rattle.mh_text.specs.Plain.{BeginsWithLine, BeginsWithCommand, BeginsWithName, BeginsWithNumberBefore, TakesEvent}
+use Rattle.mh_text.specs.Verbs.{one_word, two_word, three_word}
 use Rattle.mh_model.proofs.TextLemmas.{text_is}
 use Rattle.mh_text.proofs.DigitLemmas.{number_is}
 use Rattle.mh_text.proofs.FormLemmas.{command_said, one_counted, two_counted, three_counted}
@@ -172,24 +173,24 @@ command_one word a x first =
     let few : few_numbers (a ∷ []) ≡ Some (x ∷ []) = rw first refl in
     command_said (word ∷ a ∷ []) word (a ∷ []) (x ∷ []) refl few ∙ one_counted word x
 
-pub three_is_word : (verb : Three) → IsWord (three_word verb)
+pub three_is_word : (verb : VerbOfThree) → IsWord (three_word verb)
 three_is_word New = (refl, refl)
 three_is_word Get = (refl, refl)
 three_is_word Put = (refl, refl)
 three_is_word Write = (refl, refl)
 
-pub two_is_word : (verb : Two) → IsWord (two_word verb)
+pub two_is_word : (verb : VerbOfTwo) → IsWord (two_word verb)
 two_is_word Copy = (refl, refl)
 two_is_word Read = (refl, refl)
 two_is_word Same = (refl, refl)
 two_is_word Post = (refl, refl)
 two_is_word Take = (refl, refl)
 
-pub one_is_word : (verb : One) → IsWord (one_word verb)
+pub one_is_word : (verb : VerbOfOne) → IsWord (one_word verb)
 one_is_word Clear = (refl, refl)
 one_is_word Shape = (refl, refl)
 
-pub begins_with_three : (text : Text) (verb : Three) (t u v rest : Text) (x y z : ℕ) (command : Command) → text ≡ three_word verb ++ 32 ∷ t
+pub begins_with_three : (text : Text) (verb : VerbOfThree) (t u v rest : Text) (x y z : ℕ) (command : Command) → text ≡ three_word verb ++ 32 ∷ t
     → BeginsWithNumberBefore 32 t x u → BeginsWithNumberBefore 32 u y v → BeginsWithNumberBefore 10 v z rest → said three_rows (three_word verb) (x ∷ y ∷ z ∷ []) ≡ Some command → BeginsWithCommand text command rest
 begins_with_three text verb t u v rest x y z command whole first second third is = record {
   said = three_word verb ∷ first.word ∷ second.word ∷ third.word ∷ [];
@@ -199,7 +200,7 @@ begins_with_three text verb t u v rest x y z command whole first second third is
   is = command_three (three_word verb) first.word second.word third.word x y z first.is second.is third.is ∙ is;
 }
 
-pub begins_with_two : (text : Text) (verb : Two) (t u rest : Text) (x y : ℕ) (command : Command) → text ≡ two_word verb ++ 32 ∷ t
+pub begins_with_two : (text : Text) (verb : VerbOfTwo) (t u rest : Text) (x y : ℕ) (command : Command) → text ≡ two_word verb ++ 32 ∷ t
     → BeginsWithNumberBefore 32 t x u → BeginsWithNumberBefore 10 u y rest → said two_rows (two_word verb) (x ∷ y ∷ []) ≡ Some command → BeginsWithCommand text command rest
 begins_with_two text verb t u rest x y command whole first second is = record {
   said = two_word verb ∷ first.word ∷ second.word ∷ [];
@@ -208,7 +209,7 @@ begins_with_two text verb t u rest x y command whole first second is = record {
   is = command_two (two_word verb) first.word second.word x y first.is second.is ∙ is;
 }
 
-pub begins_with_one : (text : Text) (verb : One) (t rest : Text) (x : ℕ) (command : Command) → text ≡ one_word verb ++ 32 ∷ t
+pub begins_with_one : (text : Text) (verb : VerbOfOne) (t rest : Text) (x : ℕ) (command : Command) → text ≡ one_word verb ++ 32 ∷ t
     → BeginsWithNumberBefore 10 t x rest → said one_rows (one_word verb) (x ∷ []) ≡ Some command → BeginsWithCommand text command rest
 begins_with_one text verb t rest x command whole first is = record {
   said = one_word verb ∷ first.word ∷ [];

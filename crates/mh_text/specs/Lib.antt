@@ -5,6 +5,7 @@ pub mod Rows
 pub mod Line
 pub mod TextErrors
 pub mod Names
+pub mod Verbs
 pub mod Plain
 pub mod Taken
 pub mod Reading

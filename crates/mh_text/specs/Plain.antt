@@ -1,44 +1,13 @@
 -- Lines of commands in their plain form: a name that is known, a verb, and its numbers.
-use Rattle.std.specs.Prelude.{◌≡◌, ℕ, Some, List, ◌∷◌, ◌++◌, codes}
+use Rattle.std.specs.Prelude.{◌≡◌, ℕ, Some, List, ◌∷◌, ◌++◌}
 use Rattle.mh_model.specs.declared.command.Command.{Command}
 use Rattle.mh_model.specs.declared.command.Event.{Event}
 use Rattle.mh_model.specs.declared.command.Event.TheVariants as event
 use Rattle.mh_model.specs.Bytes.{Text, cut_after, words, number}
 use Rattle.mh_model.specs.Forms.{command_of}
 use Rattle.mh_model.specs.Script as book
-use Rattle.mh_text.specs.declared.plain.Three.{Three}
-use Rattle.mh_text.specs.declared.plain.Three.TheVariants.{New, Get, Put, Write}
-use Rattle.mh_text.specs.declared.plain.Two.{Two}
-use Rattle.mh_text.specs.declared.plain.Two.TheVariants.{Copy, Read, Same, Post, Take}
-use Rattle.mh_text.specs.declared.plain.One.{One}
-use Rattle.mh_text.specs.declared.plain.One.TheVariants.{Clear, Shape}
-use Rattle.mh_text.specs.declared.plain.Verb.{Verb}
-use Rattle.mh_text.specs.declared.plain.Verb.TheVariants as verbs
 use Rattle.mh_text.specs.Names.{IsKnown}
 use Rattle.mh_text.specs.Pieces.{Lines, TakesLine, with_piece}
-
--- how verbs are written, by how many numbers follow them
-abbrev pub three_word : Three → Text
-three_word New = codes "new"
-three_word Get = codes "get"
-three_word Put = codes "put"
-three_word Write = codes "write"
-
-abbrev pub two_word : Two → Text
-two_word Copy = codes "copy"
-two_word Read = codes "read"
-two_word Same = codes "same"
-two_word Post = codes "post"
-two_word Take = codes "take"
-
-abbrev pub one_word : One → Text
-one_word Clear = codes "clear"
-one_word Shape = codes "shape"
-
-abbrev pub verb_word : Verb → Text
-verb_word (verbs.Three verb) = three_word verb
-verb_word (verbs.Two verb) = two_word verb
-verb_word (verbs.One verb) = one_word verb
 
 -- the first line of a text has these words, and this text follows it
 pub record BeginsWithLine (text : Text) (said : List Text) (rest : Text) : Type 0 where

@@ -1,21 +1,16 @@
 //! The forms of commands and controls: which one words are, if they are one, as the tables of the model say. The first
 //! version doesn't know the control `left`. A form is sought by how many numbers the words have, and then by their
 //! verb.
-ghost use Rattle.std.specs.Prelude.{◌≡◌, nat_lt, [], ◌∷◌};
-ghost use Rattle.mh_model.specs.Forms.{within, u32, command_rows, command_of, control_rows, control_of};
+ghost use Rattle.std.specs.Prelude.{◌≡◌, ℕ, None, List, [], IfSome, IfNone};
+ghost use Rattle.mh_model.specs.Forms.{command_rows, command_of, control_rows, control_of};
 ghost use Rattle.mh_text.specs.Rows.{said, three_rows, two_rows, one_rows, plain_rows};
+ghost use Rattle.mh_text.specs.Verbs.{one_word, three_word, two_word};
 
 use crate::pieces::Words;
-use crate::word::{is_word, numbers};
+use crate::verbs::{VerbOfOne, VerbOfThree, VerbOfTwo};
+use crate::word::{is_word, numbers, small};
 use mh_model::command::{Command, Control};
 use mh_model::history::Version;
-
-/// A number of 32 bits.
-pub fn small(number: u64) -> Option<u32>
-    ensures { result ≡ within (nat_lt number u32) number }
-{
-    u32::try_from(number).ok()
-}
 
 /// The command that words are the form of.
 #[tactic(auto, using(crate::proofs::FormLemmas::command_said, crate::proofs::FormLemmas::command_none))]
@@ -31,85 +26,63 @@ fn command_with(verb: &[u8], numbers: &[u64]) -> Option<Command>
 {
     match *numbers {
         [] if is_word(verb, b"end") => Some(Command::End),
-        [slot] => with_one(verb, small(slot)?),
-        [first, second] => with_two(verb, small(first)?, small(second)?),
-        [first, second, third] => with_three(verb, small(first)?, small(second)?, third),
+        [slot] => Some(verb_of_one(verb)?.with(small(slot)?)),
+        [first, second] => Some(verb_of_two(verb)?.with(small(first)?, small(second)?)),
+        [first, second, third] => verb_of_three(verb)?.with(small(first)?, small(second)?, third),
         _ => None,
     }
 }
 
-fn with_one(verb: &[u8], slot: u32) -> Option<Command>
-    ensures { result ≡ said one_rows verb.now (slot ∷ []) }
+/// The verb with one number that a word is.
+#[tactic(auto, using(mh_model::proofs::TextLemmas::text_is))]
+fn verb_of_one(word: &[u8]) -> Option<VerbOfOne>
+    ensures some { IfSome result (λ verb. word.now ≡ one_word verb) }
+    ensures none { IfNone result ((numbers : List ℕ) → said one_rows word.now numbers ≡ None) }
 {
-    if is_word(verb, b"clear") {
-        Some(Command::Clear { slot })
-    } else if is_word(verb, b"shape") {
-        Some(Command::Shape { slot })
+    if is_word(word, b"clear") {
+        Some(VerbOfOne::Clear)
+    } else if is_word(word, b"shape") {
+        Some(VerbOfOne::Shape)
     } else {
         None
     }
 }
 
-fn with_two(verb: &[u8], first: u32, second: u32) -> Option<Command>
-    ensures { result ≡ said two_rows verb.now (first ∷ second ∷ []) }
+/// The verb with two numbers that a word is.
+#[tactic(auto, using(mh_model::proofs::TextLemmas::text_is))]
+fn verb_of_two(word: &[u8]) -> Option<VerbOfTwo>
+    ensures some { IfSome result (λ verb. word.now ≡ two_word verb) }
+    ensures none { IfNone result ((numbers : List ℕ) → said two_rows word.now numbers ≡ None) }
 {
-    if is_word(verb, b"copy") {
-        Some(Command::Copy {
-            slot: first,
-            source: second,
-        })
-    } else if is_word(verb, b"read") {
-        Some(Command::Read {
-            slot: first,
-            index: second,
-        })
-    } else if is_word(verb, b"same") {
-        Some(Command::Same {
-            left: first,
-            right: second,
-        })
-    } else if is_word(verb, b"post") {
-        Some(Command::Post {
-            board: first,
-            slot: second,
-        })
-    } else if is_word(verb, b"take") {
-        Some(Command::Take {
-            slot: first,
-            board: second,
-        })
+    if is_word(word, b"copy") {
+        Some(VerbOfTwo::Copy)
+    } else if is_word(word, b"read") {
+        Some(VerbOfTwo::Read)
+    } else if is_word(word, b"same") {
+        Some(VerbOfTwo::Same)
+    } else if is_word(word, b"post") {
+        Some(VerbOfTwo::Post)
+    } else if is_word(word, b"take") {
+        Some(VerbOfTwo::Take)
     } else {
         None
     }
 }
 
-fn with_three(verb: &[u8], first: u32, second: u32, third: u64) -> Option<Command>
-    ensures { result ≡ said three_rows verb.now (first ∷ second ∷ third ∷ []) }
+/// The verb with three numbers that a word is.
+#[tactic(auto, using(mh_model::proofs::TextLemmas::text_is))]
+fn verb_of_three(word: &[u8]) -> Option<VerbOfThree>
+    ensures some { IfSome result (λ verb. word.now ≡ three_word verb) }
+    ensures none { IfNone result ((numbers : List ℕ) → said three_rows word.now numbers ≡ None) }
 {
-    if is_word(verb, b"new") {
-        Some(Command::New {
-            slot: first,
-            references: second,
-            numbers: small(third)?,
-        })
-    } else if is_word(verb, b"get") {
-        Some(Command::Get {
-            slot: first,
-            source: second,
-            field: small(third)?,
-        })
-    } else if is_word(verb, b"put") {
-        Some(Command::Put {
-            slot: first,
-            field: second,
-            value: small(third)?,
-        })
-    } else if is_word(verb, b"write") {
-        Some(Command::Write {
-            slot: first,
-            index: second,
-            number: third,
-        })
+    if is_word(word, b"new") {
+        Some(VerbOfThree::New)
+    } else if is_word(word, b"get") {
+        Some(VerbOfThree::Get)
+    } else if is_word(word, b"put") {
+        Some(VerbOfThree::Put)
+    } else if is_word(word, b"write") {
+        Some(VerbOfThree::Write)
     } else {
         None
     }

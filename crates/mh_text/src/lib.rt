@@ -17,4 +17,5 @@ pub mod sink;
 pub mod source;
 pub mod stream;
 pub mod text_error;
+pub(crate) mod verbs;
 pub mod word;

@@ -7,9 +7,9 @@ ghost use Rattle.mh_model.specs.Bytes.{words};
 ghost use Rattle.mh_model.specs.Configs.{configured};
 ghost use Rattle.mh_text.specs.Line.{line_shown};
 
-use crate::forms::{command_of, control_of, small};
+use crate::forms::{command_of, control_of};
 use crate::pieces::Words;
-use crate::word::{is_name, is_word, numbers};
+use crate::word::{is_name, is_word, numbers, small};
 use mh_model::command::{Command, Control};
 use mh_model::config::Config;
 use mh_model::history::Version;

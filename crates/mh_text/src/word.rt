@@ -1,8 +1,9 @@
 //! Words as numbers and as names, as in the model. A number that is wider than 64 bits is none, since no form takes
 //! one.
-ghost use Rattle.std.specs.Prelude.{◌≡◌, true, ◌<◌, ◌≤◌, ◌+◌, ◌*◌, ◌-◌, ◌^◌, ◌∷◌, length, take, Some, IfSome, IfNone, ◌||◌};
+ghost use Rattle.std.specs.Prelude.{◌≡◌, nat_lt, true, ◌<◌, ◌≤◌, ◌+◌, ◌*◌, ◌-◌, ◌^◌, ◌∷◌, length, take, Some, IfSome, IfNone, ◌||◌};
 ghost use Rattle.std.specs.List.{list_all, prefix_len, take_while};
 ghost use Rattle.mh_model.specs.Bytes.{is_text, is_digit, is_letter, is_numeral, is_name, value_after, number, numbers, words};
+ghost use Rattle.mh_model.specs.Forms.{within, u32};
 ghost use Rattle.mh_text.specs.Pieces.{text_shown, words_left};
 ghost use Rattle.mh_text.specs.Plain.{BeginsWithNumberBefore};
 ghost use Rattle.mh_text.specs.Words.{BeginsWithNumber, few_numbers};
@@ -210,6 +211,13 @@ pub fn numbers(words: Words<'_>) -> Option<ArrayVec<u64, NUMBERS>>
         left = rest;
     }
     Some(found)
+}
+
+/// A number of 32 bits.
+pub fn small(number: u64) -> Option<u32>
+    ensures { result ≡ within (nat_lt number u32) number }
+{
+    u32::try_from(number).ok()
 }
 
 /// Whether a word may name a session: letters and digits, a letter first, 16 at most.
