@@ -4,6 +4,7 @@ ghost use Rattle.mh_service.specs.Services.{IsOfService};
 
 use mh_model::command::Event;
 use mh_model::config::Config;
+use mh_model::history::Entry;
 use mh_model::memory::NoMemory;
 use mh_model::reply::Reply;
 use mh_scan::crew_scan::CrewGate;
@@ -68,6 +69,19 @@ impl<'a, R: Threads + Wait, G: CrewGate> Callers<'a, R, G> {
     /// The answer to a call of its seat, which is none if there is no such seat.
     pub fn call(&mut self, event: Event) -> Option<Result<Reply, Stop>> {
         answer(self.rt, &self.service, &mut self.seats, event)
+    }
+
+    /// The history that they leave, which is none if they can't be closed.
+    pub fn close(self) -> Option<Vec<Entry>> {
+        let Callers {
+            rt: _,
+            service,
+            seats,
+        } = self;
+        match service.close(seats) {
+            Ok(closed) => Some(closed.history),
+            Err(_) => None,
+        }
     }
 
     /// Adds the line of the answer to a call, which is not refused.

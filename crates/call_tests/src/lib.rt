@@ -76,6 +76,8 @@ mod sizing_tests;
 #[cfg(test)]
 mod starved_run_tests;
 #[cfg(test)]
+mod starved_seat_tests;
+#[cfg(test)]
 mod starved_service_tests;
 #[cfg(test)]
 mod state_tests;

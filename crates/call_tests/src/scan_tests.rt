@@ -3,6 +3,7 @@ ghost use Rattle.std.specs.Prelude.{◌<◌, ◌≤◌, IsTrue};
 ghost use Rattle.mh_model.specs.Pages.{Leads};
 ghost use Rattle.mh_scan.specs.Scanning.{IsScannable, AreScannable};
 
+use crate::sweep::{PLENTY, begin_with_plenty};
 use mh_blocks::blocks::Blocks;
 use mh_classes::parts::{Part, parts};
 use mh_model::birth::Birth;
@@ -14,6 +15,7 @@ use mh_scan::scan::{OneScan, Scanner};
 use std::alloc::{AllocError, Global};
 use std::test::Fail;
 use std::thread::Threads;
+use test_support::famine::Famine;
 use test_support::gates::{Hold, Seen, Watch};
 
 fn leads(blocks: &Blocks, reference: Option<Place>) -> bool
@@ -308,5 +310,53 @@ fn a_worker_scans_on_while_another_is_held(rt: HostRuntime) -> Result<(), Fail> 
         let found = finds_nulls_while_held(&rt, rt.alloc(), until, all.get(0))?;
         assert_eq!(rt; found, [true, true], "until piece {until}");
     }
+    Ok(())
+}
+
+/// With so many bytes left a crew of two can be hired, and no piece be scanned: the lists of one take 15,488.
+const FOR_A_CREW: usize = 1_024;
+
+/// Whether a crew of two is then refused, and how many pieces passed its hook.
+fn refused_with_little<R: Threads>(
+    rt: &R,
+    alloc: Global,
+    famine: &mut Famine,
+    blocks: &Blocks,
+    batch: &[Place],
+) -> Result<(bool, u64), NoMemory>
+    requires { AreScannable blocks.now batch.now }
+{
+    let gate = Watch::new(0);
+    famine.leave(FOR_A_CREW)?;
+    let lists = CrewScan::new(rt, alloc, 2, &gate).scan(blocks, batch);
+    famine.leave(PLENTY)?;
+    Ok((lists.is_err(), gate.seen().passed))
+}
+
+/// The same of a batch of four pieces, at a second try. Once a thread was to be started the C library finds places that
+/// were not taken, and the famine takes these from then on.
+fn refused_at_second<R: Threads>(
+    rt: &R,
+    alloc: Global,
+    part: Part,
+) -> Result<(bool, u64), NoMemory> {
+    let mut blocks = Blocks::open(alloc, 2)?;
+    let batch = unlinked(alloc, &mut blocks, part)?;
+    if !are_scannable(&blocks, &batch) {
+        return Ok((false, 0));
+    }
+    let mut famine = begin_with_plenty(alloc)?;
+    let _ = refused_with_little(rt, alloc, &mut famine, &blocks, &batch)?;
+    refused_with_little(rt, alloc, &mut famine, &blocks, &batch)
+}
+
+/// Each of the two workers has passed the hook with a piece, though none could be scanned. So the hook comes before the
+/// scan.
+#[test]
+fn a_piece_passes_the_hook_before_its_scan(rt: HostRuntime) -> Result<(), Fail> {
+    let all = parts(Rules::Second, 1, 0).ok_or("too large")?;
+    let _ = all.count();
+    let found = refused_at_second(&rt, rt.alloc(), all.get(0))?;
+    assert_eq!(rt; found, (true, 2));
     Ok(())
 }

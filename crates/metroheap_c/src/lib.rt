@@ -1,5 +1,6 @@
 //! The calls of the static library, for programs in C and what calls C. `include/metroheap.h` describes them. Each is a
-//! call of `mh_embed` over what its handle keeps. A closed handle answers so and stays closed. Those whose names end in
+//! call of `mh_embed` over what its handle keeps. The law `calls_keep_the_promise` of that crate covers each that may
+//! change what is kept (`ends_are_calls`). A closed handle answers so and stays closed. Those whose names end in
 //! `_nonnull` have a shorthand in the header that takes null pointers too. Tests alone show that the header says what
 //! the calls take, and that a C program finds them.
 #![tactic(auto)]

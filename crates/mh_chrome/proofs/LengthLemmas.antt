@@ -1,7 +1,7 @@
 -- The lengths of slices that are in no other slice, on whatever threads they are counted.
 use Rattle.std.proofs.Common.{◌≡◌, ◌∙◌, ℕ, zero, suc, ◌+◌, ◌-◌, ◌≤◌, ◌==◌, Bool, true, false, if◌then◌else◌, List, [], ◌∷◌, ◌++◌, refl, ap, subst, arith}
 use Rattle.std.proofs.lemmas.Bool.{ne_eqb}
-use Rattle.mh_chrome.specs.TraceEvents.{TraceEvent, Process, Thread, Rank, Begin, End, Instant, Counter}
+use Rattle.mh_chrome.specs.TraceEvents.{TraceEvent, Process, Begin, End, Instant, Counter}
 use Rattle.mh_chrome.specs.Laws.{Nests, begin_times, counted_on, end_times}
 use Rattle.mh_chrome.proofs.BlockLemmas.{IsBlock, nests-then}
 
@@ -14,23 +14,15 @@ pub record Sums (is_on : ℕ → Bool) (before after begins ends : ℕ) (events 
 module _ (is_on : ℕ → Bool) where
   begins-then : (a b : ℕ) (first next : List TraceEvent) → Nests is_on a b first → begin_times is_on a (first ++ next) ≡ begin_times is_on a first + begin_times is_on b next
   begins-then a b [] next h = let same : begin_times is_on a next ≡ begin_times is_on b next = ap (λ n. begin_times is_on n next) h in omega (arith, same)
-  begins-then a b (Process name ∷ events) next h = begins-then a b events next h
-  begins-then a b (Thread thread name ∷ events) next h = begins-then a b events next h
-  begins-then a b (Rank thread ∷ events) next h = begins-then a b events next h
   begins-then a b (Begin time thread name arguments ∷ events) next h = let more = begins-then (a + counted_on is_on thread) b events next h in omega (arith, more)
   begins-then a b (End time thread ∷ events) next h = begins-then (a - counted_on is_on thread) b events next h.1
-  begins-then a b (Instant time thread name arguments ∷ events) next h = begins-then a b events next h
-  begins-then a b (Counter time name series ∷ events) next h = begins-then a b events next h
+  begins-then a b (other ∷ events) next h = begins-then a b events next h
 
   ends-then : (a b : ℕ) (first next : List TraceEvent) → Nests is_on a b first → end_times is_on a (first ++ next) ≡ end_times is_on a first + end_times is_on b next
   ends-then a b [] next h = let same : end_times is_on a next ≡ end_times is_on b next = ap (λ n. end_times is_on n next) h in omega (arith, same)
-  ends-then a b (Process name ∷ events) next h = ends-then a b events next h
-  ends-then a b (Thread thread name ∷ events) next h = ends-then a b events next h
-  ends-then a b (Rank thread ∷ events) next h = ends-then a b events next h
   ends-then a b (Begin time thread name arguments ∷ events) next h = ends-then (a + counted_on is_on thread) b events next h
   ends-then a b (End time thread ∷ events) next h = let more = ends-then (a - counted_on is_on thread) b events next h.1 in omega (arith, more)
-  ends-then a b (Instant time thread name arguments ∷ events) next h = ends-then a b events next h
-  ends-then a b (Counter time name series ∷ events) next h = ends-then a b events next h
+  ends-then a b (other ∷ events) next h = ends-then a b events next h
 
   pub sums-then : (a b c m n p q : ℕ) (first next : List TraceEvent) → Sums is_on a b m n first → Sums is_on b c p q next → Sums is_on a c (m + p) (n + q) (first ++ next)
   sums-then a b c m n p q first next h more = record {
@@ -63,8 +55,6 @@ module _ (is_on : ℕ → Bool) where
   pub sums-within : (a b : ℕ) (events : List TraceEvent) → Nests is_on a b events → Sums is_on (suc a) (suc b) 0 0 events
   sums-within a b [] h = record { nests = ap suc h; begins_are = refl; ends_are = refl }
   sums-within a b (Process name ∷ events) h = let more = sums-within a b events h in record { nests = more.nests; begins_are = more.begins_are; ends_are = more.ends_are }
-  sums-within a b (Thread thread name ∷ events) h = let more = sums-within a b events h in record { nests = more.nests; begins_are = more.begins_are; ends_are = more.ends_are }
-  sums-within a b (Rank thread ∷ events) h = let more = sums-within a b events h in record { nests = more.nests; begins_are = more.begins_are; ends_are = more.ends_are }
   sums-within a b (Begin time thread name arguments ∷ events) h =
       let more = sums-within (a + counted_on is_on thread) b events h in
       let none = no_begin (is_on thread) a time in
@@ -87,6 +77,7 @@ module _ (is_on : ℕ → Bool) where
       }
   sums-within a b (Instant time thread name arguments ∷ events) h = let more = sums-within a b events h in record { nests = more.nests; begins_are = more.begins_are; ends_are = more.ends_are }
   sums-within a b (Counter time name series ∷ events) h = let more = sums-within a b events h in record { nests = more.nests; begins_are = more.begins_are; ends_are = more.ends_are }
+  sums-within a b (other ∷ events) h = let more = sums-within a b events h in record { nests = more.nests; begins_are = more.begins_are; ends_are = more.ends_are }
 
   -- Other threads ----------------------------------------------------------------------------------
 
@@ -113,8 +104,6 @@ module _ (is_on : ℕ → Bool) where
   pub sums-block : (depth from to : ℕ) (events : List TraceEvent) → ((thread : ℕ) → thread ≤ 2 → is_on thread ≡ false) → IsBlock from to events → Sums is_on depth depth 0 0 events
   sums-block depth from to [] other h = record { nests = refl; begins_are = refl; ends_are = refl }
   sums-block depth from to (Process name ∷ events) other h = absurd h
-  sums-block depth from to (Thread thread name ∷ events) other h = absurd h
-  sums-block depth from to (Rank thread ∷ events) other h = absurd h
   sums-block depth from to (Begin time thread name arguments ∷ events) other h =
       let off = begun-off (is_on thread) (other thread h.1.0) depth time events (sums-block depth time to events other h.1.1) in
       record { nests = off.0; begins_are = off.1.0; ends_are = off.1.1 }
@@ -124,3 +113,4 @@ module _ (is_on : ℕ → Bool) where
   sums-block depth from to (Instant time thread name arguments ∷ events) other h = absurd h
   sums-block depth from to (Counter time name series ∷ events) other h =
       let more = sums-block depth time to events other h.1 in record { nests = more.nests; begins_are = more.begins_are; ends_are = more.ends_are }
+  sums-block depth from to (another ∷ events) other h = absurd h

@@ -114,14 +114,10 @@ module _ (is_on : ℕ → Bool) where
     nests-deed (deed.Reference index edge) = going
     nests-deed (deed.Pass page) = step-as (step_name (deed.Pass page)) _ (omega arith)
     nests-deed (deed.Sweep place fate) = step-as (step_name (deed.Sweep place fate)) _ (omega arith)
-    nests-deed (deed.FreePage page) = step-as None _ (omega arith)
-    nests-deed (deed.FlagPage page) = step-as None _ (omega arith)
-    nests-deed (deed.UnflagPage page) = step-as None _ (omega arith)
     nests-deed (deed.Stay place) = step-as (step_name (deed.Stay place)) _ (omega arith)
     nests-deed (deed.Move place to name class_size) = step-as (step_name (deed.Move place to name class_size)) _ (omega arith)
     nests-deed deed.ForwardRoots = going
-    nests-deed (deed.Shade place) = step-as None _ (omega arith)
-    nests-deed (deed.Make place name class_size fields tier) = step-as None _ (omega arith)
+    nests-deed other = step-as None _ (omega arith)
 
   pub nests-deeds : (base : ℕ) (told : Bool) (course : Course) (deeds : List Deed) → Nests is_on (inside base course) (inside base (course_after_all told course deeds)) (deeds_events told course deeds)
   nests-deeds base told course [] = refl

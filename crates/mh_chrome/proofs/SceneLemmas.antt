@@ -5,17 +5,18 @@ use Rattle.mh_model.specs.declared.config.Config.{Config}
 use Rattle.mh_model.specs.declared.reply.Reply.{Reply}
 use Rattle.mh_model.specs.Bytes.{Text}
 use Rattle.mh_model.specs.Deeds.{Account, account_of}
-use Rattle.mh_model.specs.Machine.{event_step, first_machine}
+use Rattle.mh_model.specs.Machine.{event_step, first_machine, machine_replies}
 use Rattle.mh_orders.specs.declared.range.RangeOptions.{RangeOptions}
 use Rattle.mh_steps.proofs.OfScript.AddedLines.{AddsLines}
 use Rattle.mh_steps.specs.OfScript.OfMachine.Running.{Running, first_running}
 use Rattle.mh_steps.specs.Figures.{counts_of}
+use Rattle.mh_steps.specs.Steps.{AreInTurn}
 use Rattle.mh_steps.specs.declared.figures.Counts.{Counts}
 use Rattle.mh_steps.specs.declared.figures.Moment.{Moment}
 use Rattle.mh_chrome.specs.declared.course.Course.{Course}
 use Rattle.mh_chrome.specs.declared.run.Drawn.{Drawn}
 use Rattle.mh_chrome.specs.Deeds.{counters, nothing_open}
-use Rattle.mh_chrome.specs.Runs.{Scene, begun_by, chrome_events, first_scene, head_text, is_told, last_events, last_text, named_events, ran_course, ran_events, scene_after, scene_after_all, scene_events, scene_moment, scene_of, scenes_events, told_events}
+use Rattle.mh_chrome.specs.Runs.{DrawsReplies, IsDrawn, Scene, begun_by, chrome_events, chrome_text, first_scene, head_text, is_told, last_events, last_text, named_events, ran_course, ran_events, scene_after, scene_after_all, scene_course, scene_course_after, scene_events, scene_moment, scene_of, scenes_events, told_events}
 use Rattle.mh_chrome.specs.TraceEvents.{TraceEvent, Process, event_text, file_text, next_texts}
 use Rattle.mh_chrome.proofs.TextLemmas.{both_written, next_texts_append}
 
@@ -109,3 +110,35 @@ draw_written options scene e old a b d told number at mutator reply shown counts
     let last : List TraceEvent = counters now course.shown counts in
     let same : first ++ (ran ++ last) ≡ scene_events options scene e = rw (course_is, told_is, number_is, at_is, mutator_is, shown_is, reply_is, account_is, now_is, counts_is) refl in
     both_written old a d first (ran ++ last) a_is (both_written a b d ran last b_is d_is) ∙ ap (λ (events : List TraceEvent). old ++ next_texts events) same
+
+-- Replies ----------------------------------------------------------------------------------------
+
+-- a file draws the machine's replies
+events_drawn : (options : RangeOptions) (scene : Scene) (events : List Event) → AreInTurn (IsDrawn options) scene.number events (machine_replies scene.machine events) (scenes_events options scene events)
+unfolding machine_replies scenes_events
+events_drawn options scene [] = refl
+events_drawn options scene (e ∷ events) =
+    let after = (event_step scene.machine e).state in
+    let account = account_of scene.machine e in (
+      scene_events options scene e,
+      scenes_events options (scene_after options scene e) events,
+      record {
+        seen = scene.seen;
+        moment = scene_moment scene e;
+        deeds = account.command;
+        course = scene_course scene e;
+        ran = account.quantum;
+        now = length after.trace.letters;
+        shown = (scene_course_after options scene e).shown;
+        counts = counts_of after.heap.collector;
+        numbered = refl;
+        is = refl;
+      },
+      events_drawn options (scene_after options scene e) events,
+      refl,
+    )
+
+pub draws_replies : (options : RangeOptions) (script : Text) (config : Config) (events : List Event) → DrawsReplies options config events (machine_replies (first_machine config) events) (chrome_text options script config events)
+draws_replies options script config events =
+    let last = scene_after_all options (first_scene config) events in
+    record { drawn = scenes_events options (first_scene config) events; now = length last.machine.trace.letters; slices = last.slices; each = events_drawn options (first_scene config) events; is = refl }

@@ -101,9 +101,7 @@ shaded_few false = omega arith
 
 swept_few : (counts : Counts) (f : Fate) → total (swept counts f) ≤ total counts
 swept_few counts fate.Empty = omega arith
-swept_few counts (fate.Kept name) = omega arith
-swept_few counts (fate.Freed name) = omega arith
-swept_few counts (fate.FreedForwarder target) = omega arith
+swept_few counts other = omega arith
 
 -- a deed adds one at most to what is counted
 pub counted_few : (counts : Counts) (d : Deed) → total (counted counts d) ≤ total counts + 1
@@ -115,11 +113,4 @@ counted_few counts (deed.Mark place name) = omega arith
 counted_few counts (deed.Reference index edge) = omega (arith, shaded_few edge.is_shaded)
 counted_few counts (deed.Pass page) = omega arith
 counted_few counts (deed.Sweep place f) = omega (arith, swept_few counts f)
-counted_few counts (deed.FreePage page) = omega arith
-counted_few counts (deed.FlagPage page) = omega arith
-counted_few counts (deed.UnflagPage page) = omega arith
-counted_few counts (deed.Stay place) = omega arith
-counted_few counts (deed.Move place to name class_size) = omega arith
-counted_few counts deed.ForwardRoots = omega arith
-counted_few counts (deed.Shade place) = omega arith
-counted_few counts (deed.Make place name class_size fields tier) = omega arith
+counted_few counts other = omega arith

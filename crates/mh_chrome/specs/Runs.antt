@@ -1,5 +1,5 @@
 -- A run as trace events, and what is written of it.
-use Rattle.std.specs.Prelude.{ℕ, suc, ◌+◌, ◌==◌, nat_le, nat_lt, Bool, false, ◌&&◌, if◌then◌else◌, Option, Some, None, List, [], ◌∷◌, ◌++◌, length, codes}
+use Rattle.std.specs.Prelude.{◌≡◌, ℕ, suc, ◌+◌, ◌==◌, nat_le, nat_lt, Bool, false, ◌&&◌, if◌then◌else◌, Option, Some, None, List, [], ◌∷◌, ◌++◌, length, codes}
 use Rattle.std.specs.List.{list_any}
 use Rattle.mh_model.specs.declared.command.Command.{Command}
 use Rattle.mh_model.specs.declared.command.Event.{Event}
@@ -8,6 +8,7 @@ use Rattle.mh_model.specs.declared.config.Config.{Config}
 use Rattle.mh_model.specs.declared.cycle.Phase.{Phase}
 use Rattle.mh_model.specs.declared.deed.Deed.{Deed}
 use Rattle.mh_model.specs.declared.deed.Deed.TheVariants as deed
+use Rattle.mh_model.specs.declared.history.Entry.{Entry}
 use Rattle.mh_model.specs.declared.reply.Reply.{Reply}
 use Rattle.mh_model.specs.Bytes.{Text, joined}
 use Rattle.mh_model.specs.Deeds.{Account, Ran, account_of}
@@ -21,6 +22,7 @@ use Rattle.mh_steps.specs.declared.figures.Moment.{Moment}
 use Rattle.mh_steps.specs.Fields.{Field, Number, Word, field}
 use Rattle.mh_steps.specs.Figures.{counts_of, moment_of, quantum_at, spent_by}
 use Rattle.mh_steps.specs.OfScript.OfMachine.Running.{Running}
+use Rattle.mh_steps.specs.Steps.{AreInTurn}
 use Rattle.mh_chrome.specs.declared.course.Course.{Course}
 use Rattle.mh_chrome.specs.declared.course.Slices.{Slices}
 use Rattle.mh_chrome.specs.declared.run.Drawn.{Drawn}
@@ -185,3 +187,26 @@ last_text now slices = next_texts (open_ends now slices) ++ codes "\n]}\n"
 -- What a run of a script with these events writes. The script's names of its sessions don't matter
 abbrev pub chrome_text : RangeOptions → Text → Config → List Event → Text
 chrome_text options script config events = file_text (chrome_events options config events)
+
+-- Replies that are drawn -------------------------------------------------------------------------
+
+-- the entry of the event of this number was drawn, if it is shown, and then the quantum that it ran and the counters
+pub record IsDrawn (options : RangeOptions) (number : ℕ) (entry : Entry) (drawn : List TraceEvent) : Type 0 where
+  pub seen : List ℕ
+  pub moment : Moment
+  pub deeds : List Deed
+  pub course : Course
+  pub ran : Option Ran
+  pub now : ℕ
+  pub shown : Counts
+  pub counts : Counts
+  pub numbered : moment.number ≡ number
+  pub is : drawn ≡ (if is_told options number then told_events seen moment entry.event entry.reply deeds else []) ++ (ran_events (is_told options number) number course ran ++ counters now shown counts)
+
+-- A file draws these replies to these events, as far as they are shown
+pub record DrawsReplies (options : RangeOptions) (config : Config) (events : List Event) (replies : List Reply) (text : Text) : Type 0 where
+  pub drawn : List TraceEvent
+  pub now : ℕ
+  pub slices : Slices
+  pub each : AreInTurn (IsDrawn options) 1 events replies drawn
+  pub is : text ≡ file_text (head_events config ++ (drawn ++ open_ends now slices))

@@ -13,12 +13,13 @@ ghost use Rattle.std.specs.Io.KnownBytes.{Appends, Keeps};
 ghost use Rattle.std.specs.String.{string_bytes};
 ghost use Rattle.mh_model.specs.Limits.{most_entries};
 ghost use Rattle.mh_model.specs.Output as model;
+ghost use Rattle.mh_steps.specs.OfScript.Promised.{KeepsPromise};
 ghost use Rattle.mh_steps.specs.OfScript.Run.{EndsAs, HasReason, Outputs, TakesToRun, WritesBeginning, transcript};
 ghost use Rattle.mh_steps.specs.OfScript.Texts.{LeavesSource, Blames, WantsMemory};
 ghost use Rattle.mh_text.specs.Stream.{AppendsBeginning};
 ghost use Rattle.mh_steps.specs.Figures.{counts_of};
 ghost use Rattle.mh_chrome.specs.Deeds.{nothing_open};
-ghost use Rattle.mh_chrome.specs.Runs.{chrome_events, chrome_text, head_text, is_told, last_text, open_ends, scene_after, scene_after_all, scene_events, scene_of, scenes_events};
+ghost use Rattle.mh_chrome.specs.Runs.{DrawsReplies, chrome_events, chrome_text, head_text, is_told, last_text, open_ends, scene_after, scene_after_all, scene_events, scene_of, scenes_events};
 ghost use Rattle.mh_chrome.specs.TraceEvents.{file_text, next_texts};
 
 use crate::counters::{push_all_counters, push_counters};
@@ -36,6 +37,7 @@ use mh_steps::figures::{Moment, heap_counts, trace_units};
 use mh_steps::mh_script::end::End;
 use mh_steps::mh_script::fault::{ScriptFault, WriteError};
 use mh_steps::mh_script::mh_machine::machine::Machine;
+use mh_steps::mh_script::mh_promise::promise::replies_are_promised;
 use mh_steps::mh_script::mh_scan::scan::{OneScan, Scanner};
 use mh_steps::mh_script::texts::{flush, flush_full};
 use mh_steps::mh_script::transcript::{Transcript, transcribe};
@@ -248,6 +250,7 @@ pub fn chrome_script<S: Source, W: Sink>(
 ) -> Result<End, ScriptFault>
     requires source_count { S.failures source.old < 2 ^ 62 }
     requires sink_count { W.failures sink.old < 2 ^ 62 }
+    ensures promise { KeepsPromise (DrawsReplies options) options.rules (S.rest source.old) (W.written sink.old) (W.written sink.new) result }
     ensures ends { IfOk result (EndsAs (transcript (chrome_text options) options.rules) (S.rest source.old) (W.written sink.old) (W.written sink.new)) }
     ensures reason { IfOk result (HasReason (S.rest source.old)) }
     ensures begun { OnErr result (WritesBeginning (transcript (chrome_text options) options.rules) (S.rest source.old) (W.written sink.old) (W.written sink.new)) }
@@ -257,6 +260,7 @@ pub fn chrome_script<S: Source, W: Sink>(
     ensures taken { LeavesSource SCRIPT_BYTES (S.rest source.old) (S.rest source.new) result }
     ensures blames { Blames (S.failures source.old) (S.failures source.new) (W.failures sink.old) (W.failures sink.new) result }
 {
+    replies_are_promised();
     let mut chrome = Chrome { options };
     let mut scanner = OneScan::new(alloc);
     transcribe(

@@ -4,17 +4,10 @@ use Rattle.clap.specs.Words.{Row, Text}
 use Rattle.mh_command_line.specs.Line.{WantsConfig}
 use Rattle.mh_command_line.specs.Orders.{HasOptionFault, IsNumberFault}
 use Rattle.mh_command_line.specs.declared.options.OptionFault.{OptionFault}
-use Rattle.mh_command_line.specs.declared.options.OptionFault.TheVariants.{NoNumber, NoProfile, NoBlocks, Missing, Lacking, Unwanted, OfLog, NoFullAlone, OfCurve, Beside, Outside}
+use Rattle.mh_command_line.specs.declared.options.OptionFault.TheVariants.{NoNumber, Missing, Outside}
 
 pub number_fault : (name : Text) (rows : List Row) (fault : OptionFault) → WantsConfig name rows → IsNumberFault rows fault → HasOptionFault name rows fault
 number_fault name rows (NoNumber option text) wants is = (wants, is)
-number_fault name rows (NoProfile text) wants is = absurd is
-number_fault name rows (NoBlocks option text) wants is = absurd is
 number_fault name rows (Missing option) wants is = (wants, is)
-number_fault name rows (Lacking option) wants is = absurd is
-number_fault name rows (Unwanted option flag) wants is = absurd is
-number_fault name rows (OfLog flag) wants is = absurd is
-number_fault name rows NoFullAlone wants is = absurd is
-number_fault name rows (OfCurve fault) wants is = absurd is
-number_fault name rows (Beside option other) wants is = absurd is
 number_fault name rows (Outside option) wants is = inl (wants, is)
+number_fault name rows other wants is = absurd is

@@ -211,16 +211,9 @@ LacksProfile rows = IsSomeAnd (one_of (codes "profile") rows) (λ text. (profile
 -- what is wrong with the options of a configuration: one is no number, or is missing, or is outside its limits
 abbrev pub IsNumberFault : List Row → OptionFault → Type 0
 IsNumberFault rows (NoNumber name text) = IsConfigOption name.now × LacksNumber rows name.now
-IsNumberFault rows (NoProfile text) = ⊥
-IsNumberFault rows (NoBlocks name text) = ⊥
 IsNumberFault rows (Missing name) = IsConfigOption name.now × (one_of name.now rows ≡ None)
-IsNumberFault rows (Lacking name) = ⊥
-IsNumberFault rows (Unwanted name flag) = ⊥
-IsNumberFault rows (OfLog flag) = ⊥
-IsNumberFault rows NoFullAlone = ⊥
-IsNumberFault rows (OfCurve fault) = ⊥
-IsNumberFault rows (Beside name other) = ⊥
 IsNumberFault rows (Outside option) = AreOutside rows option
+IsNumberFault rows other = ⊥
 
 -- the flag is `--sessions` or `--log`, and is given
 abbrev pub IsJudgingFlag : List Row → Text → Type 0

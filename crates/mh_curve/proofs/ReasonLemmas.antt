@@ -59,13 +59,7 @@ pauses-reason-long text whole pauses.TooLong longer long is = (refl, omega (arit
 pauses-reason-long text whole pauses.TooManyUnits longer long is = absurd (omega (arith, long, is.1.short))
 pauses-reason-long text whole pauses.Empty longer long is = absurd (omega (arith, is.0))
 pauses-reason-long text whole pauses.NoNewline longer long is = absurd (omega (arith, is.0))
-pauses-reason-long text whole pauses.Comment longer long is = absurd (omega (arith, is.2.numbered))
-pauses-reason-long text whole (pauses.Bytes fault) longer long is = absurd (omega (arith, is.2.numbered))
-pauses-reason-long text whole (pauses.History version) longer long is = absurd (omega (arith, is.2.numbered))
-pauses-reason-long text whole pauses.Script longer long is = absurd (omega (arith, is.2.numbered))
-pauses-reason-long text whole (pauses.UnknownWord quoted) longer long is = absurd (omega (arith, is.2.numbered))
-pauses-reason-long text whole pauses.NotRun longer long is = absurd (omega (arith, is.2.numbered))
-pauses-reason-long text whole (pauses.Number fault) longer long is = absurd (omega (arith, is.2.numbered))
+pauses-reason-long text whole other longer long is = absurd (omega (arith, is.2.numbered))
 
 -- Kinds ------------------------------------------------------------------------------------------
 

@@ -50,9 +50,6 @@ short_run law config events few =
 pub breaks_so : (options : CurveOptions) (rules : Rules) (known : Option Text) (end : End) (found : Option Broken) (ended : CurveEnd) → IsEndOf ended end → (end ≡ run.Done → IfSome found (λ broken. ended ≡ Drawn broken))
     → LeavesTranscript (λ config events. IsFoundOfRun options.promises config events found) rules known end → BreaksSo options rules known ended
 breaks_so options rules known end found (ScriptRefused refusal) is drawn leaves = tt
-breaks_so options rules known end found (HistoryRefused line reason) is drawn leaves = tt
-breaks_so options rules known end found HistoryTooLong is drawn leaves = tt
-breaks_so options rules known end found (LogRefused line reason) is drawn leaves = tt
 breaks_so options rules known end found (Drawn broken) is drawn leaves =
     by found (drawn is) (subst (λ e. LeavesTranscript (λ config events. IsFoundOfRun options.promises config events found) rules known e) is leaves)
   where
@@ -62,6 +59,7 @@ breaks_so options rules known end found (Drawn broken) is drawn leaves =
     by (Some other) same leaves =
         let is : other ≡ broken = cc in
         (leaves.0, leaves.1, leaves.2, leaves.3, subst (IsJudgedRun options.promises (with_rules rules leaves.1.config) (take most_entries leaves.1.events)) is leaves.4)
+breaks_so options rules known end found other is drawn leaves = tt
 
 -- memory that was refused to a run is refused to its drawing
 abbrev drew : ScriptFault → Result CurveEnd ScriptFault

@@ -18,25 +18,13 @@ use Rattle.mh_cycle.proofs.StrideLemmas.{over-nothing}
 units-enter : (before after : Phase) → units_of (enter_deeds before after) ≡ 0
 units-enter Idle after = refl
 units-enter Roots Idle = refl
-units-enter Roots Roots = refl
-units-enter Roots Mark = refl
-units-enter Roots Sweep = refl
-units-enter Roots Defrag = refl
+units-enter Roots other = refl
 units-enter Mark Idle = refl
-units-enter Mark Roots = refl
-units-enter Mark Mark = refl
-units-enter Mark Sweep = refl
-units-enter Mark Defrag = refl
+units-enter Mark other = refl
 units-enter Sweep Idle = refl
-units-enter Sweep Roots = refl
-units-enter Sweep Mark = refl
-units-enter Sweep Sweep = refl
-units-enter Sweep Defrag = refl
+units-enter Sweep other = refl
 units-enter Defrag Idle = refl
-units-enter Defrag Roots = refl
-units-enter Defrag Mark = refl
-units-enter Defrag Sweep = refl
-units-enter Defrag Defrag = refl
+units-enter Defrag other = refl
 
 units-references : (m : Marking) (place index : ℕ) (references : List (Option ℕ)) → units_of (reference_deeds m place index references) ≡ length references
 units-references m place index [] = refl

@@ -231,10 +231,8 @@ over-past left moved c other (inl is) = ap (λ b. b || nat_lt left (step_cost c 
   where
     idle : (phase : Phase) → (phase ≡ Defrag → ⊥) → 3 ≤ order phase → is_idle phase ≡ true
     idle Idle other h = refl
-    idle Roots other h = absurd (omega arith)
-    idle Mark other h = absurd (omega arith)
-    idle Sweep other h = absurd (omega arith)
     idle Defrag other h = absurd (other refl)
+    idle earlier other h = absurd (omega arith)
 
 -- the end of a quantum
 pub advance-ends : (left units : ℕ) (moved : Bool) (old new : CycleState) → IsAdvance left old units moved new → is_over (left - units) moved new.collector ≡ true → IsRest left old units new

@@ -30,9 +30,9 @@ use Rattle.mh_laws.proofs.commands.EachCommand.{IsKeptByWrites, shade-each, mark
 use Rattle.mh_laws.proofs.commands.LeftUnchanged.{table-phase_after, table-quantum_start, collector_step-keeps}
 use Rattle.mh_laws.proofs.costs.Quanta.{steps-stop, steps-go}
 use Rattle.mh_laws.proofs.moving.NextMove.{IsNextMove, next_move-is}
-use Rattle.mh_sizing_laws.proofs.openings.KeptRoom.{makes_none, makes_none-new}
-use Rattle.mh_sizing_laws.proofs.openings.MadeParts.{IsFirst, first-made, taken-slots}
-use Rattle.mh_sizing_laws.proofs.pages_left.SweptPages.{move-free}
+use Rattle.mh_laws.proofs.rooms.KeptRoom.{makes_none, makes_none-new}
+use Rattle.mh_laws.proofs.rooms.FirstParts.{IsFirst, first-made, taken-slots}
+use Rattle.mh_laws.proofs.rooms.Moves.{move-free}
 use Rattle.mh_table_laws.proofs.tables.PageSlots.{slots_in-class_size, class_of-class_size}
 
 -- a deed changes neither blocks nor which pages are free
@@ -59,26 +59,15 @@ turn-end = record { silent = refl; units = refl }
 -- what is entered after a step
 pub turns-enter : (before after : Phase) → AllByRecursion IsTurn (enter_deeds before after)
 turns-enter Idle after = tt
-turns-enter Roots Idle = tt
-turns-enter Roots Roots = tt
 turns-enter Roots Mark = (turn-enter Mark, tt)
 turns-enter Roots Sweep = (turn-enter Sweep, tt)
-turns-enter Roots Defrag = tt
-turns-enter Mark Idle = tt
-turns-enter Mark Roots = tt
-turns-enter Mark Mark = tt
+turns-enter Roots other = tt
 turns-enter Mark Sweep = (turn-enter Sweep, tt)
-turns-enter Mark Defrag = tt
-turns-enter Sweep Idle = tt
-turns-enter Sweep Roots = tt
-turns-enter Sweep Mark = tt
-turns-enter Sweep Sweep = tt
+turns-enter Mark other = tt
 turns-enter Sweep Defrag = (turn-enter Defrag, tt)
+turns-enter Sweep other = tt
 turns-enter Defrag Idle = (turn-end, tt)
-turns-enter Defrag Roots = tt
-turns-enter Defrag Mark = tt
-turns-enter Defrag Sweep = tt
-turns-enter Defrag Defrag = tt
+turns-enter Defrag other = tt
 
 -- A count of a table, and what each deed adds to it and takes from it
 pub record IsCount (count : Table Block → ℕ) (adds takes : Deed → ℕ) : Type 0 where

@@ -13,7 +13,7 @@ use Rattle.mh_model.specs.Deeds.{name_of, block_fate, tier_of}
 use Rattle.mh_table_laws.proofs.Lists.{below_length}
 use Rattle.mh_table_laws.proofs.placing.Places.{block_at-with_taken_there, with_block-self, shaped-slots, least_dense_place-page}
 use Rattle.mh_laws.proofs.moving.NextMove.{IsNextMove}
-use Rattle.mh_sizing_laws.proofs.openings.Rooms.{if_free, free_pages-set, taken-in_use}
+use Rattle.mh_laws.proofs.rooms.Rooms.{if_free, free_pages-set, taken-in_use}
 use Rattle.mh_blocks.proofs.CountLemmas.{one, in_table, in_table-with_block, in_table-with_taken, in_table-with_flag, in_table-freed}
 use Rattle.mh_cycle_laws.specs.Cycles.{makes, opens, opens_by, frees, drops, empties, moves}
 use Rattle.mh_cycle_laws.proofs.Balances.{is_silent, IsCount}

@@ -21,8 +21,8 @@ use Rattle.mh_model.specs.Snapshot.{has_quantum}
 use Rattle.mh_laws.proofs.bounds.CyclesInTime.{collectors-in_bounds}
 use Rattle.mh_laws.proofs.commands.LeftUnchanged.{mutator_step-course}
 use Rattle.mh_laws.proofs.costs.QuantumStarts.{idle_is}
-use Rattle.mh_sizing_laws.proofs.openings.Intervals.{quantum-event}
-use Rattle.mh_sizing_laws.proofs.triggers.Quanta.{IsAfter, quantum-after}
+use Rattle.mh_laws.proofs.rooms.QuietEvents.{quantum-event}
+use Rattle.mh_laws.proofs.rooms.Quanta.{IsAfter, quantum-after}
 use Rattle.mh_cycle_laws.specs.Cycles.{Cycle, starts_cycle, quantum_account, cycle_begun, cycle_with, has_ended, cycle_through, cycles_from, ran_deeds, account_deeds, deeds_in_cycle, quanta_in_cycle, units_in}
 use Rattle.mh_cycle_laws.specs.Laws.{AddsUp, CyclesAddUp}
 use Rattle.mh_cycle_laws.proofs.UnitLemmas.{units-parted}

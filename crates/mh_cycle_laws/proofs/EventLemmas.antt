@@ -27,7 +27,7 @@ use Rattle.mh_laws.proofs.bounds.CyclesInTime.{StaysInBounds, by_command, by_qua
 use Rattle.mh_laws.proofs.commands.LeftUnchanged.{mutator_step-course, quantum-keeps, first_table-pages}
 use Rattle.mh_laws.proofs.runs.EveryMoment.{half_step-keeps, event_step-keeps}
 use Rattle.mh_laws.proofs.snapshots.SteadyStates.{collectors-steady, heaps-kept}
-use Rattle.mh_sizing_laws.proofs.openings.Intervals.{quantum-event}
+use Rattle.mh_laws.proofs.rooms.QuietEvents.{quantum-event}
 use Rattle.mh_cycle_laws.specs.Cycles.{makes, opens, frees, drops, empties, moves, ran_deeds, account_deeds}
 use Rattle.mh_cycle_laws.proofs.Balances.{Balances, balances-append, quantum-balances, command-balances}
 use Rattle.mh_cycle_laws.proofs.CountLemmas.{is_live, live-count, old-count, free-count}
@@ -144,22 +144,14 @@ pub half-tells : (config : Config) (machine : Machine) (event : Event) → IsSaf
 unfolding account_of
 half-tells config machine (event.Session who command) safe = command_step-tells machine who command safe.slots
 half-tells config machine (event.Control control.Quantum) safe = nothing-tells machine machine (quiet machine)
-half-tells config machine (event.Control control.Start) safe = nothing-tells machine machine (quiet machine)
-half-tells config machine (event.Control control.Stat) safe = nothing-tells machine machine (quiet machine)
-half-tells config machine (event.Control control.Dump) safe = nothing-tells machine machine (quiet machine)
-half-tells config machine (event.Control control.Left) safe = nothing-tells machine machine (quiet machine)
-half-tells config machine (event.Control (control.Report window)) safe = nothing-tells machine machine (quiet machine)
+half-tells config machine (event.Control asked) safe = nothing-tells machine machine (quiet machine)
 
 -- an event's quantum is that of its half step
 pub account-quantum : (machine : Machine) (event : Event) → (account_of machine event).quantum ≡ ran_if (has_quantum machine event) (half_step machine event).heap
 unfolding account_of
 account-quantum machine (event.Session who command) = refl
 account-quantum machine (event.Control control.Quantum) = refl
-account-quantum machine (event.Control control.Start) = refl
-account-quantum machine (event.Control control.Stat) = refl
-account-quantum machine (event.Control control.Dump) = refl
-account-quantum machine (event.Control control.Left) = refl
-account-quantum machine (event.Control (control.Report window)) = refl
+account-quantum machine (event.Control asked) = refl
 
 -- without one, nothing follows the half step
 pub quiet-event : (machine : Machine) (event : Event) → has_quantum machine event ≡ false → IsQuiet (half_step machine event) (event_step machine event).state
@@ -175,10 +167,7 @@ quiet-event machine (event.Control control.Quantum) none = go (machine.heap.conf
     go true e = absurd (true≢false e)
     go false e = quiet machine
 quiet-event machine (event.Control control.Start) none = record { table = refl; phase = refl; count = refl; trace = refl }
-quiet-event machine (event.Control control.Stat) none = quiet machine
-quiet-event machine (event.Control control.Dump) none = quiet machine
-quiet-event machine (event.Control control.Left) none = quiet machine
-quiet-event machine (event.Control (control.Report window)) none = quiet machine
+quiet-event machine (event.Control asked) none = quiet machine
 
 quantum_run-tells : (config : Config) (machine : Machine) → IsSafe config machine → Tell machine (quantum_deeds machine.heap.config machine.heap.collector) (quantum_run machine).state
 unfolding quantum_run

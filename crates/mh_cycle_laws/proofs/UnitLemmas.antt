@@ -50,10 +50,7 @@ units-parted phase (d ∷ deeds) = omega (arith, sum_by-cons deed_units d deeds,
 
     one : (now : Phase) → deed_units d ≡ (if is_phase Idle now then deed_units d else 0) + ((if is_phase Roots now then deed_units d else 0) + (if is_phase Mark now then deed_units d else 0) + (if is_phase Sweep now then deed_units d else 0) + (if is_phase Defrag now then deed_units d else 0))
     one Idle = omega arith
-    one Roots = omega arith
-    one Mark = omega arith
-    one Sweep = omega arith
-    one Defrag = omega arith
+    one other = omega arith
 
 pub units_in-few : (wanted phase : Phase) (deeds : List Deed) → units_in wanted phase deeds ≤ units_of deeds
 units_in-few wanted phase [] = omega arith
@@ -107,10 +104,7 @@ stay-idle phase (d ∷ deeds) runs (here, after) = omega (arith, none phase runs
   where
     none : (now : Phase) → is_idle now ≡ false → (if is_phase Idle now then deed_units d else 0) ≡ 0
     none Idle e = absurd (true≢false e)
-    none Roots e = refl
-    none Mark e = refl
-    none Sweep e = refl
-    none Defrag e = refl
+    none other e = refl
 
 stay-references : (phase : Phase) (m : Marking) (place index : ℕ) (references : List (Option ℕ)) → Stay phase (reference_deeds m place index references)
 stay-references phase m place index [] = tt
@@ -195,11 +189,9 @@ phase_after-grey Defrag collector is = go (is_past collector.table collector.cur
     go false = not_marking collector (ap is_marking is)
 
 step_in-phase : (phase : Phase) (collector : Collector) → collector.phase ≡ phase → (step_in phase collector).phase ≡ phase
-step_in-phase Idle collector is = is
 step_in-phase Roots collector is = refl
-step_in-phase Mark collector is = is
-step_in-phase Sweep collector is = is
 step_in-phase Defrag collector is = refl
+step_in-phase other collector is = is
 
 step-grey : (collector : Collector) → HasGrey (collector_step collector)
 unfolding collector_step

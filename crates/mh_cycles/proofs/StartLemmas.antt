@@ -17,7 +17,7 @@ use Rattle.mh_model.specs.Snapshot.{has_quantum}
 use Rattle.mh_laws.proofs.commands.LeftUnchanged.{mutator_step-course}
 use Rattle.mh_laws.proofs.costs.Quanta.{steps-stop, steps-go}
 use Rattle.mh_laws.proofs.costs.QuantumStarts.{begins}
-use Rattle.mh_sizing_laws.proofs.openings.Intervals.{quantum-event, quiet-event}
+use Rattle.mh_laws.proofs.rooms.QuietEvents.{quantum-event, quiet-event}
 use Rattle.mh_cycle_laws.specs.Cycles.{starts_cycle}
 use Rattle.mh_cycles.specs.Tallies.{asked_after}
 
@@ -53,10 +53,8 @@ move-same collector (Some move) = record { cycle = refl; asked = refl }
 
 step_in-same : (phase : Phase) (collector : Collector) → IsSameCycle collector (step_in phase collector)
 step_in-same Idle collector = same collector
-step_in-same Roots collector = record { cycle = refl; asked = refl }
-step_in-same Mark collector = record { cycle = refl; asked = refl }
-step_in-same Sweep collector = record { cycle = refl; asked = refl }
 step_in-same Defrag collector = let moved = move-same collector (next_move collector.table collector.cursor) in record { cycle = moved.cycle; asked = moved.asked }
+step_in-same other collector = record { cycle = refl; asked = refl }
 
 step-same : (collector : Collector) → IsSameCycle collector (collector_step collector)
 unfolding collector_step
@@ -176,10 +174,7 @@ event-asked machine (event.Control control.Quantum) = elim (cases_Bool (machine.
     e : Event
     e = event.Control control.Quantum
 event-asked machine (event.Control control.Start) = refl
-event-asked machine (event.Control control.Stat) = asked-is machine.heap.collector.is_asked false
-event-asked machine (event.Control control.Dump) = asked-is machine.heap.collector.is_asked false
-event-asked machine (event.Control control.Left) = asked-is machine.heap.collector.is_asked false
-event-asked machine (event.Control (control.Report window)) = asked-is machine.heap.collector.is_asked false
+event-asked machine (event.Control asked) = asked-is machine.heap.collector.is_asked false
 
 -- No event starts a cycle while one runs
 pub running-starts_none : (machine : Machine) (event : Event) → is_idle machine.heap.collector.phase ≡ false → starts_cycle machine event ≡ false

@@ -29,8 +29,7 @@ units_total units = units.roots + units.mark + units.sweep + units.defrag
 
 opens-few : (tier : Tier) → opens_by tier ≤ 1
 opens-few Dense = omega arith
-opens-few Fresh = omega arith
-opens-few Sparse = omega arith
+opens-few other = omega arith
 
 begins-few : (place : ℕ) → begins_page place ≤ 1
 begins-few place = go (slot_number place == 0)
@@ -41,9 +40,7 @@ begins-few place = go (slot_number place == 0)
 
 fates-few : (fate : Fate) → frees_by fate + drops_by fate ≤ 1
 fates-few fate.Empty = omega arith
-fates-few (fate.Kept name) = omega arith
-fates-few (fate.Freed name) = omega arith
-fates-few (fate.FreedForwarder target) = omega arith
+fates-few other = omega arith
 
 counts-few : (d : Deed) → counts_total (counts_of d) ≤ 4 + 2 * deed_units d
 counts-few (deed.Make place name class_size fields tier) = omega (arith, opens-few tier)
@@ -67,10 +64,7 @@ grey-few grey d = omega arith
 units-few : (units : Units) (phase : Phase) (more : ℕ) → units_total (units_with units phase more) ≤ units_total units + more
 unfolding units_total
 units-few units Idle more = omega arith
-units-few units Roots more = omega arith
-units-few units Mark more = omega arith
-units-few units Sweep more = omega arith
-units-few units Defrag more = omega arith
+units-few units other more = omega arith
 
 room-with : (limit : ℕ) (tally : Tally) (d : Deed) → HasRoom limit tally → HasRoom (limit + (4 + 2 * deed_units d)) (tally_with tally d)
 unfolding units_total
@@ -115,32 +109,20 @@ module _ (get : Units → ℕ) (wanted : Phase) (one : (units : Units) (phase : 
   spent-all (d ∷ deeds) tally = omega (arith, spent-all deeds (tally_with tally d), one tally.units tally.phase (deed_units d))
 
 one-roots : (units : Units) (phase : Phase) (more : ℕ) → (units_with units phase more).roots ≡ units.roots + (if is_phase Roots phase then more else 0)
-one-roots units Idle more = omega arith
 one-roots units Roots more = refl
-one-roots units Mark more = omega arith
-one-roots units Sweep more = omega arith
-one-roots units Defrag more = omega arith
+one-roots units other more = omega arith
 
 one-mark : (units : Units) (phase : Phase) (more : ℕ) → (units_with units phase more).mark ≡ units.mark + (if is_phase Mark phase then more else 0)
-one-mark units Idle more = omega arith
-one-mark units Roots more = omega arith
 one-mark units Mark more = refl
-one-mark units Sweep more = omega arith
-one-mark units Defrag more = omega arith
+one-mark units other more = omega arith
 
 one-sweep : (units : Units) (phase : Phase) (more : ℕ) → (units_with units phase more).sweep ≡ units.sweep + (if is_phase Sweep phase then more else 0)
-one-sweep units Idle more = omega arith
-one-sweep units Roots more = omega arith
-one-sweep units Mark more = omega arith
 one-sweep units Sweep more = refl
-one-sweep units Defrag more = omega arith
+one-sweep units other more = omega arith
 
 one-defrag : (units : Units) (phase : Phase) (more : ℕ) → (units_with units phase more).defrag ≡ units.defrag + (if is_phase Defrag phase then more else 0)
-one-defrag units Idle more = omega arith
-one-defrag units Roots more = omega arith
-one-defrag units Mark more = omega arith
-one-defrag units Sweep more = omega arith
 one-defrag units Defrag more = refl
+one-defrag units other more = omega arith
 
 grey-least : (grey : ℕ) (deeds : List Deed) → grey ≤ longest_grey grey deeds
 grey-least grey [] = omega arith

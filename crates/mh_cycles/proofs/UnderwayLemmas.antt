@@ -22,7 +22,7 @@ use Rattle.mh_model.specs.Snapshot.{has_quantum}
 use Rattle.mh_model.specs.Trace.{TraceState, mutator_count, collector_count, with_spent}
 use Rattle.mh_model.proofs.LetterLemmas.{mutator-C, collector-C}
 use Rattle.mh_laws.proofs.costs.Quanta.{units-quantum}
-use Rattle.mh_sizing_laws.proofs.openings.Intervals.{quantum-event}
+use Rattle.mh_laws.proofs.rooms.QuietEvents.{quantum-event}
 use Rattle.mh_cycle_laws.specs.Cycles.{Cycle, starts_cycle, cycle_begun, cycle_with, ran_deeds, account_deeds, deeds_in_cycle, quanta_in_cycle, makes, opens, frees, drops, empties, moves, cycle_number, was_asked, greatest_spent, stat_before}
 use Rattle.mh_cycle_laws.proofs.EventLemmas.{IsSafe, safe-first, safe-event, half-tells, quantum-tells, event-tells, account-quantum}
 use Rattle.mh_cycle_laws.proofs.UnitLemmas.{is_of_command, command-deeds, command-spent}
@@ -57,11 +57,7 @@ commands-are : (machine : Machine) (event : Event) → AllByRecursion (λ d. is_
 unfolding account_of
 commands-are machine (event.Session who command) = command-deeds machine.heap who command
 commands-are machine (event.Control control.Quantum) = tt
-commands-are machine (event.Control control.Start) = tt
-commands-are machine (event.Control control.Stat) = tt
-commands-are machine (event.Control control.Dump) = tt
-commands-are machine (event.Control control.Left) = tt
-commands-are machine (event.Control (control.Report window)) = tt
+commands-are machine (event.Control asked) = tt
 
 command-none : (weight : Deed → ℕ) → ((d : Deed) → is_of_command d ≡ true → weight d ≡ 0) → (deeds : List Deed) → AllByRecursion (λ d. is_of_command d ≡ true) deeds → sum_by weight deeds ≡ 0
 command-none weight none [] all = refl

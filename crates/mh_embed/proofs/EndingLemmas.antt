@@ -13,8 +13,9 @@ use Rattle.mh_embed.specs.declared.driver.Driver.TheVariants.{Grows}
 use Rattle.mh_embed.specs.declared.numbers.ReplyNumbers.{ReplyNumbers}
 use Rattle.mh_embed.specs.declared.status.Status.{Status}
 use Rattle.mh_embed.specs.declared.status.Status.TheVariants as status
+use Rattle.mh_live.specs.Promised.{line_event, names_after}
 use Rattle.mh_live.specs.Worlds.{Grown}
-use Rattle.mh_embed.specs.Driving.{Driven, Takes, IsOfWorld, IsUndone, FullMachine, FullWorld, Starved, StarvedWorld, NoCollector, line_event, names_after}
+use Rattle.mh_embed.specs.Driving.{Driven, Takes, IsOfWorld, IsUndone, FullMachine}
 use Rattle.mh_embed.specs.Endings.{EventEnds, Done, Undone, LineEnds, Has, ReplyEnds, Shown, NoneYet}
 use Rattle.mh_embed.specs.Numbers.{IsShownBy}
 
@@ -23,10 +24,7 @@ numbered kind numbers = record { kind = kind; numbers = numbers }
 
 never-done : (driver : Driver) (event : Event) (ends : Status) → ends ≡ status.Done → IsUndone driver event ends → ⊥
 never-done _ _ _ is (FullMachine old event full) = cc
-never-done _ _ _ is (FullWorld old who command full) = cc
-never-done _ _ _ is (Starved old event room asks) = cc
-never-done _ _ _ is (StarvedWorld old who command new asked) = cc
-never-done _ _ _ is (NoCollector old control) = cc
+never-done _ _ _ is other = cc
 
 pub is_world : (driver : Driver) (grown : Grown) → driver ≡ Grows grown → IsOfWorld driver
 is_world driver grown is = rw is tt

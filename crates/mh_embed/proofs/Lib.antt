@@ -1,4 +1,6 @@
 pub mod EndingLemmas
 pub mod NumberLemmas
+pub mod PromiseLemmas
+pub mod RecalledLemmas
 pub mod ReservedLemmas
 pub mod TurnLemmas

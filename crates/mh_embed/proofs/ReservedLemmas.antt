@@ -10,10 +10,10 @@ use Rattle.mh_embed.specs.declared.driver.Driver.TheVariants.{Collects}
 use Rattle.mh_embed.specs.declared.status.Status.{Status}
 use Rattle.mh_embed.specs.declared.status.Status.TheVariants as status
 use Rattle.mh_embed.specs.Drivers.{Collected}
-use Rattle.mh_embed.specs.Driving.{ByMachine, ByWorld, FullMachine, FullWorld, IsUndone, NoCollector, Starved, StarvedWorld, Takes}
+use Rattle.mh_embed.specs.Driving.{ByMachine, ByWorld, IsUndone, Starved, Takes}
 use Rattle.mh_embed.specs.Laws.{AtFirst, Done, Forgotten, ReservedEventsAreNotRefusedMemory, Since}
 
-same_machine : (was now : Collected) → Collects was ≡ Collects now → was ≡ now
+pub same_machine : (was now : Collected) → Collects was ≡ Collects now → was ≡ now
 same_machine was now e = cc
 
 -- a machine is driven, which has done so many events since its first moment or its last forgetting
@@ -23,12 +23,12 @@ record IsSince (first : Running) (count : ℕ) (driver : Driver) : Type 0 where
   since : machines.Since first count now.machine
 
 -- an event that a machine has done
-record DoneOn (was : Collected) (event : Event) (given : Reply) (driver : Driver) : Type 0 where
-  now : Collected
-  is : driver ≡ Collects now
-  does : Does was.machine event given now.machine
+pub record DoneOn (was : Collected) (event : Event) (given : Reply) (driver : Driver) : Type 0 where
+  pub now : Collected
+  pub is : driver ≡ Collects now
+  pub does : Does was.machine event given now.machine
 
-done_on : (was : Collected) (old new : Driver) (event : Event) (given : Reply) → old ≡ Collects was → Takes old event given new → DoneOn was event given new
+pub done_on : (was : Collected) (old new : Driver) (event : Event) (given : Reply) → old ≡ Collects was → Takes old event given new → DoneOn was event given new
 done_on was _ _ event given is (ByMachine old _ _ new does) =
     subst (λ (from : Collected). DoneOn from event given (Collects new)) (same_machine old was is) (record { now = new; is = refl; does = does.does })
 done_on was _ _ _ given is (ByWorld old who said _ new does) = cc
@@ -46,11 +46,8 @@ is_since first _ _ (Forgotten count was now since forgetting) =
 
 -- memory is refused only to an event that may ask for it
 starved_asks : (driver : Driver) (event : Event) (ends : Status) (now : Collected) → ends ≡ status.NoMemory → driver ≡ Collects now → IsUndone driver event ends → MayAskForMemory now.machine.room event
-starved_asks _ _ _ now none is (FullMachine old event full) = cc
-starved_asks _ _ _ now none is (FullWorld old who said full) = cc
 starved_asks _ _ _ now none is (Starved old event room asks) = subst (λ (from : Collected). MayAskForMemory from.machine.room event) (same_machine old now is) asks
-starved_asks _ _ _ now none is (StarvedWorld old who said new asked) = cc
-starved_asks _ _ _ now none is (NoCollector old control) = cc
+starved_asks _ _ _ now none is other = cc
 
 pub not_refused : ReservedEventsAskForNoMemory → ReservedEventsAreNotRefusedMemory
 not_refused law events before first new count event reserving since few other undone =

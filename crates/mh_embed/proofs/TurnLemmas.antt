@@ -11,11 +11,12 @@ use Rattle.mh_model.specs.Live as model
 use Rattle.mh_model.specs.Live.{Turn, answers_line, command_turn, event_turn, line_turn, turn, world_turn}
 use Rattle.mh_model.specs.Replies.{reply_text}
 use Rattle.mh_model.specs.Script.{Line, Blank, Calls, Asks, Wrong, line_of, session_number}
+use Rattle.mh_live.specs.Promised.{line_event, names_after}
 use Rattle.mh_embed.specs.declared.status.Status.TheVariants as status
 use Rattle.mh_embed.specs.declared.status.Status.{Status}
 use Rattle.mh_embed.specs.declared.driver.Driver.{Driver}
 use Rattle.mh_embed.specs.declared.driver.Driver.TheVariants.{Collects, Grows}
-use Rattle.mh_embed.specs.Driving.{ByMachine, ByWorld, Driven, Takes, line_event, names_after}
+use Rattle.mh_embed.specs.Driving.{ByMachine, ByWorld, Driven, Takes}
 use Rattle.mh_embed.specs.Endings.{LineEnds, Has}
 use Rattle.mh_embed.specs.Laws.{LinesAreTurns, live_with}
 use Rattle.mh_embed.proofs.EndingLemmas.{IsAnswered, answered}

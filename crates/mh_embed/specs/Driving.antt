@@ -1,5 +1,5 @@
 -- What a program drives behind a handle, and what an event makes of it.
-use Rattle.std.specs.Prelude.{◌≡◌, ◌<◌, ◌≤◌, ℕ, Option, Some, None, List, [], ◌∷◌, ◌-◌, drop, length, take, if◌then◌else◌}
+use Rattle.std.specs.Prelude.{◌≡◌, ◌<◌, ◌≤◌, ℕ, Option, None, List, [], ◌∷◌, ◌-◌, drop, length, take, if◌then◌else◌}
 use Rattle.mh_model.specs.declared.command.Command.{Command}
 use Rattle.mh_model.specs.declared.command.Control.{Control}
 use Rattle.mh_model.specs.declared.command.Event.{Event}
@@ -8,7 +8,6 @@ use Rattle.mh_model.specs.declared.config.Config.{Config}
 use Rattle.mh_model.specs.declared.reply.Reply.{Reply}
 use Rattle.mh_model.specs.Bytes.{Text, is_text}
 use Rattle.mh_model.specs.Limits.{most_events}
-use Rattle.mh_model.specs.Script.{Line, Blank, Calls, Asks, Wrong, session_number, with_name}
 use Rattle.mh_model.specs.World.{IsNew, never_full, refusal, sight_of}
 use Rattle.mh_script.specs.OfMachine.Running.{MayAskForMemory}
 use Rattle.mh_embed.specs.declared.driver.Driver.{Driver}
@@ -56,15 +55,3 @@ pub data IsUndone : Driver → Event → Status → Type 0 where
 -- a line without the newline that may end it
 abbrev pub without_newline : Text → Text
 without_newline line = if is_text (drop (length line - 1) line) (10 ∷ []) then take (length line - 1) line else line
-
--- the event of a line when these are the first names seen
-abbrev pub line_event : List Text → Line → Option Event
-line_event names Blank = None
-line_event names Wrong = None
-line_event names (Calls name command) = Some (event.Session (session_number names name) command)
-line_event names (Asks control) = Some (event.Control control)
-
--- the names seen once the event of a line is done
-abbrev pub names_after : List Text → Line → List Text
-names_after names (Calls name command) = with_name names name
-names_after names _ = names

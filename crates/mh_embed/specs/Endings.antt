@@ -17,6 +17,7 @@ use Rattle.mh_model.specs.World.{IsNew, world_step}
 use Rattle.mh_trace_laws.specs.Forgetting.{KeepsPromise}
 use Rattle.mh_script.specs.OfReasons.LineReason.{LineReason}
 use Rattle.mh_script.specs.OfReasons.Reasons.{IsLineReason, IsWrong}
+use Rattle.mh_live.specs.Promised.{line_event, names_after}
 use Rattle.mh_embed.specs.declared.driver.Driver.{Driver}
 use Rattle.mh_embed.specs.declared.driver.Driver.TheVariants.{Collects, Grows}
 use Rattle.mh_embed.specs.declared.numbers.DeedNumbers.{DeedNumbers}
@@ -27,7 +28,7 @@ use Rattle.mh_embed.specs.declared.numbers.UnitNumbers.{UnitNumbers}
 use Rattle.mh_embed.specs.declared.status.Status.{Status}
 use Rattle.mh_embed.specs.declared.status.Status.TheVariants as status
 use Rattle.mh_embed.specs.Drivers.{Collected, Forgetting, Reserving}
-use Rattle.mh_embed.specs.Driving.{Driven, Takes, IsOfWorld, IsUndone, line_event, names_after}
+use Rattle.mh_embed.specs.Driving.{Driven, Takes, IsOfWorld, IsUndone}
 use Rattle.mh_embed.specs.Numbers.{IsDeedShownBy, IsItemShownBy, IsShownBy, event_numbered, items_of}
 
 -- Events -----------------------------------------------------------------------------------------

@@ -1,23 +1,27 @@
 -- What is answered behind a handle, beside what a run line by line answers.
-use Rattle.std.specs.Prelude.{◌≡◌, ◌<◌, ℕ, suc, true, false, Some, List}
+use Rattle.std.specs.Prelude.{◌≡◌, ◌<◌, ℕ, suc, Bool, true, false, Some, List}
 use Rattle.mh_model.specs.declared.command.Event.{Event}
 use Rattle.mh_model.specs.declared.command.Event.TheVariants as event
+use Rattle.mh_model.specs.declared.config.Config.{Config}
 use Rattle.mh_model.specs.declared.reply.Reply.{Reply}
 use Rattle.mh_model.specs.Bytes.{Text}
 use Rattle.mh_model.specs.Forms.{Phrase, command_phrase, control_phrase, is_sayable}
 use Rattle.mh_model.specs.Live as model
 use Rattle.mh_model.specs.Live.{Live, Runs, answers_line, turn}
 use Rattle.mh_model.specs.Replies.{reply_text}
-use Rattle.mh_model.specs.Script.{line_of}
+use Rattle.mh_model.specs.Script.{Line, line_of}
 use Rattle.mh_script.specs.OfMachine.Reserved.{is_dump}
 use Rattle.mh_embed.specs.declared.driver.Driver.{Driver}
 use Rattle.mh_embed.specs.declared.driver.Driver.TheVariants.{Collects, Grows}
 use Rattle.mh_embed.specs.declared.numbers.EventNumbers.{EventNumbers}
+use Rattle.mh_embed.specs.declared.numbers.ReplyNumbers.{ReplyNumbers}
+use Rattle.mh_embed.specs.declared.status.Status.{Status}
 use Rattle.mh_embed.specs.declared.status.Status.TheVariants as status
 use Rattle.mh_embed.specs.Drivers.{Collected, Forgetting, Reserving}
-use Rattle.mh_embed.specs.Driving.{Driven, IsUndone, Takes}
-use Rattle.mh_embed.specs.Endings.{LineEnds}
+use Rattle.mh_embed.specs.Driving.{Driven, IsUndone, Takes, first_driven}
+use Rattle.mh_embed.specs.Endings.{AnswerEnds, ForgetEnds, JudgeEnds, LineEnds, ReserveEnds, StepEnds, TellEnds}
 use Rattle.mh_embed.specs.Numbers.{event_numbered}
+use Rattle.mh_embed.specs.Promised.{AreCalls, IsDrivenAsPromised, IsOneCall}
 
 -- the same machine or world, between two lines, when these names were seen
 abbrev pub live_with : List Text → Driver → Live
@@ -52,3 +56,16 @@ pub data Since (first : Driver) : ℕ → Driver → Type 0 where
 -- Once there is room for some events, memory is refused to none of the next so many, unless it is a dump; and so to none of so many after each time that the trace is forgotten
 abbrev pub ReservedEventsAreNotRefusedMemory : Type 0
 ReservedEventsAreNotRefusedMemory = (events : ℕ) (before first : Collected) (new : Driver) (count : ℕ) (event : Event) → Reserving events before first → Since (Collects first) count new → count < events → is_dump event ≡ false → ¬ IsUndone new event status.NoMemory
+
+-- However a call of the library ends that may change what is driven, it is one call
+pub record EndsAreCalls : Type 0 where
+  pub answer : (old new : Driven) (line : Line) (out out' : Text) (written : ℕ) (ends : Status) → AnswerEnds old line new out out' written ends → IsOneCall old new
+  pub step : (old new : Driven) (asked : EventNumbers) (shown shown' : ReplyNumbers) (ends : Status) → StepEnds old asked new shown shown' ends → IsOneCall old new
+  pub judge : (old new : Driven) (asked : EventNumbers) (given right right' : ReplyNumbers) (ends : Status) → JudgeEnds old asked given new right right' ends → IsOneCall old new
+  pub tell : (old new : Driven) (tells : Bool) (ends : Status) → TellEnds old tells new ends → IsOneCall old new
+  pub reserve : (old new : Driven) (events : ℕ) (ends : Status) → ReserveEnds old events new ends → IsOneCall old new
+  pub forget : (old new : Driven) (ends : Status) → ForgetEnds old new ends → IsOneCall old new
+
+-- Any calls on the machine of a configuration drive it as promised
+abbrev pub CallsKeepThePromise : Type 0
+CallsKeepThePromise = (config : Config) (events : List Event) (replies : List Reply) (driven : Driven) → AreCalls (first_driven config) events replies driven → IsDrivenAsPromised config events replies driven

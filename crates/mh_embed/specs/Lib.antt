@@ -5,4 +5,5 @@ pub mod Endings
 pub mod Kept
 pub mod Laws
 pub mod Numbers
+pub mod Promised
 pub mod Statuses

@@ -1,8 +1,25 @@
-//! Laws of machines and worlds behind handles: a line is answered as in a run line by line, each event has numbers, and
-//! memory is refused to no event for which there is room.
-ghost use Rattle.mh_embed.specs.Laws.{EventsHaveNumbers, LinesAreTurns, ReservedEventsAreNotRefusedMemory};
+//! Laws of machines and worlds behind handles: calls keep the promise, a line is answered as in a run line by line, each
+//! event has numbers, and memory is refused to no event for which there is room.
+ghost use Rattle.mh_embed.specs.Laws.{CallsKeepThePromise, EndsAreCalls, EventsHaveNumbers, LinesAreTurns, ReservedEventsAreNotRefusedMemory};
 
+use mh_promise::replays::events_keep_the_replay;
 use mh_script::mh_machine::reserved::reserved_events_ask_for_no_memory;
+use mh_trace_laws::{events_keep_what_is_recalled, forgotten_traces_keep_their_promise};
+
+/// Calls on the machine of a configuration keep the promise, also if its trace is forgotten between them. It is that of the
+/// events that they did, as numbers or by lines, and of the replies to these.
+pub fn calls_keep_the_promise()
+    ensures { CallsKeepThePromise }
+{
+    events_keep_the_replay();
+    events_keep_what_is_recalled();
+    forgotten_traces_keep_their_promise();
+}
+
+/// Each call that may change what is driven is one of those that keep the promise.
+pub fn ends_are_calls()
+    ensures { EndsAreCalls }
+{}
 
 /// A line whose event is done is answered as in a run line by line.
 pub fn lines_are_turns()

@@ -8,7 +8,7 @@ use Rattle.mh_model.specs.declared.history.Version.{Version}
 use Rattle.mh_model.specs.Forms.{command_phrase, is_sayable}
 use Rattle.mh_model.specs.HistoryTexts.{is_event}
 use Rattle.mh_orders.specs.declared.profile.Profile.{Profile}
-use Rattle.mh_orders.specs.declared.profile.Profile.TheVariants.{Churn, Lists, Trees, Wide, Large, Fragments, Refusals, Barriers, Comb, Race, Cycles, Mixed}
+use Rattle.mh_orders.specs.declared.profile.Profile.TheVariants.{Churn}
 use Rattle.mh_generate.specs.Asked.{writes_its_number}
 use Rattle.mh_generate.specs.Taken.{IsSaid}
 use Rattle.mh_generate.proofs.TakenLemmas.{nothing}
@@ -16,17 +16,7 @@ use Rattle.mh_generate.proofs.TakenLemmas.{nothing}
 -- neither a quantum nor nothing writes a number
 pub writes-others : (profile : Profile) (number : ℕ) → (writes_its_number profile number (event.Control control.Quantum) ≡ true) × (writes_its_number profile number nothing ≡ true)
 writes-others Churn number = (refl, refl)
-writes-others Lists number = (refl, refl)
-writes-others Trees number = (refl, refl)
-writes-others Wide number = (refl, refl)
-writes-others Large number = (refl, refl)
-writes-others Fragments number = (refl, refl)
-writes-others Refusals number = (refl, refl)
-writes-others Barriers number = (refl, refl)
-writes-others Comb number = (refl, refl)
-writes-others Race number = (refl, refl)
-writes-others Cycles number = (refl, refl)
-writes-others Mixed number = (refl, refl)
+writes-others other number = (refl, refl)
 
 pub said_known : (v : Version) (who : ℕ) (c : Command) (said : ℕ × Command) → IsSaid who c said → who ≤ 8 → is_sayable (command_phrase said.1) ≡ true → is_event v (event.Session said.0 said.1) ≡ true
 said_known v who c said (inl is) few sayable = and_from _ _ (le-leb said.0 8 (subst (λ (other : ℕ × Command). other.0 ≤ 8) (sym is) few)) sayable

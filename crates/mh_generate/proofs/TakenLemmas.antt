@@ -26,9 +26,7 @@ effect-refused world who (command.Read slot index) e = refl
 effect-refused world who (command.Write slot index number) e = cc
 effect-refused world who (command.Same left right) e = refl
 effect-refused world who (command.Shape slot) e = refl
-effect-refused world who (command.Post board slot) e = cc
-effect-refused world who (command.Take slot board) e = cc
-effect-refused world who command.End e = cc
+effect-refused world who asked e = cc
 
 -- a refused command leaves the world as it was
 pub refused_unchanged : (world : World) (who : ℕ) (c : Command) → is_refused (world_step world who c).reply ≡ true → (world_step world who c).state ≡ world
@@ -50,19 +48,11 @@ set_later [] who = refl
 set_later (x ∷ xs) who = refl
 
 effect-stays : (world : World) (who : ℕ) (c : Command) → ends_first who c ≡ false → get_or (effect world who c).state.ended 0 false ≡ get_or world.ended 0 false
-effect-stays world who (command.New slot references numbers) e = refl
-effect-stays world who (command.Get slot source field) e = refl
 effect-stays world who (command.Put slot field value) e = ap (λ ended. get_or ended 0 false) (change-ended world _ _)
-effect-stays world who (command.Copy slot source) e = refl
-effect-stays world who (command.Clear slot) e = refl
-effect-stays world who (command.Read slot index) e = refl
 effect-stays world who (command.Write slot index number) e = ap (λ ended. get_or ended 0 false) (change-ended world _ _)
-effect-stays world who (command.Same left right) e = refl
-effect-stays world who (command.Shape slot) e = refl
-effect-stays world who (command.Post board slot) e = refl
-effect-stays world who (command.Take slot board) e = refl
 effect-stays world zero command.End e = absurd (true≢false e)
 effect-stays world (suc who) command.End e = set_later world.ended who
+effect-stays world who other e = refl
 
 -- it stays by any other command
 pub first_stays : (world : World) (who : ℕ) (c : Command) → ends_first who c ≡ false → is_first_here world ≡ true → is_first_here (world_step world who c).state ≡ true

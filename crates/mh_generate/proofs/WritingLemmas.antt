@@ -26,7 +26,7 @@ use Rattle.mh_orders.specs.declared.generate_options.Controls.{Controls}
 use Rattle.mh_orders.specs.declared.generate_options.Controls.TheVariants.{ByChance, Each, Never}
 use Rattle.mh_orders.specs.declared.generate_options.Options.{Options}
 use Rattle.mh_orders.specs.declared.profile.Profile.{Profile}
-use Rattle.mh_orders.specs.declared.profile.Profile.TheVariants.{Churn, Lists, Trees, Wide, Large, Fragments, Refusals, Barriers, Comb, Race, Cycles, Mixed}
+use Rattle.mh_orders.specs.declared.profile.Profile.TheVariants.{Refusals, Mixed}
 use Rattle.mh_generate.specs.Asked.{all_numbered, is_command, is_quantum, is_timed, version_under, writes_its_number}
 use Rattle.mh_generate.specs.Generated.{IsAsked, WritesAsked}
 use Rattle.mh_generate.specs.Profiles.{has_acts, named_by}
@@ -84,11 +84,7 @@ known_two : (rules : Rules) (e : Event) → is_event (version_under rules) e ≡
 known_two Second e h = h
 known_two First (event.Session who c) h = h
 known_two First (event.Control control.Left) h = refl
-known_two First (event.Control control.Quantum) h = h
-known_two First (event.Control control.Start) h = h
-known_two First (event.Control control.Stat) h = h
-known_two First (event.Control control.Dump) h = h
-known_two First (event.Control (control.Report window)) h = h
+known_two First (event.Control other) h = h
 
 asked_of : (options : Options) (events : List Event) → AreFit options events → length events ≡ options.events → IsAsked options (script_text options.config events)
 asked_of options events fit count =
@@ -173,18 +169,9 @@ IsHere options events = has_acts options.profile ≡ true → is_first_here (wor
 below-most : (options : Options) → is_below (most_of options) nothing ≡ true
 below-most options = lt-ltb 0 (most_of options) (some_named options.profile options.sessions options.some_sessions) where
   some_named : (profile : Profile) (sessions : ℕ) → 0 < sessions → 0 < named_by profile sessions
-  some_named Churn sessions some = some
-  some_named Lists sessions some = some
-  some_named Trees sessions some = some
-  some_named Wide sessions some = some
-  some_named Large sessions some = some
-  some_named Fragments sessions some = some
   some_named Refusals sessions some = omega arith
-  some_named Barriers sessions some = some
-  some_named Comb sessions some = some
-  some_named Race sessions some = some
-  some_named Cycles sessions some = some
   some_named Mixed sessions some = omega arith
+  some_named other sessions some = some
 
 known-fillers : (rules : Rules) → (is_event (version_under rules) (event.Control control.Quantum) ≡ true) × (is_event (version_under rules) nothing ≡ true)
 known-fillers First = (refl, refl)

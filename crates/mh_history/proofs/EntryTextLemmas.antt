@@ -19,16 +19,7 @@ record Full (words : List Text) : Type 0 where
 
 full_reply : (r : Reply) → Full (reply_words r)
 full_reply reply.Done = record { first = _; more = _; words_are = refl }
-full_reply (reply.Number number) = record { first = _; more = _; words_are = refl }
-full_reply reply.Yes = record { first = _; more = _; words_are = refl }
-full_reply reply.No = record { first = _; more = _; words_are = refl }
-full_reply (reply.Shape shape) = record { first = _; more = _; words_are = refl }
-full_reply (reply.Refused refusal) = record { first = _; more = _; words_are = refl }
-full_reply (reply.Spent units phase) = record { first = _; more = _; words_are = refl }
-full_reply (reply.Stat stat) = record { first = _; more = _; words_are = refl }
-full_reply (reply.Dump items) = record { first = _; more = _; words_are = refl }
-full_reply (reply.Report report) = record { first = _; more = _; words_are = refl }
-full_reply (reply.Left quanta) = record { first = _; more = _; words_are = refl }
+full_reply other = record { first = _; more = _; words_are = refl }
 
 full_event : (e : Event) → Full (event_words e)
 full_event (event.Session who command) = record { first = _; more = _; words_are = refl }

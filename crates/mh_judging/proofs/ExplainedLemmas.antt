@@ -10,7 +10,8 @@ use Rattle.mh_judging.specs.declared.entry_fault.EntryFault.{EntryFault}
 use Rattle.mh_judging.specs.Faults.{HasFault, IsWrongAfter}
 use Rattle.mh_judging.specs.Histories.{History, IsExplainedAs, IsFaultIn, IsVerdictIn, reading_under, under}
 use Rattle.mh_judging.specs.Judgements.{IsCheckExplained, IsCheckedFault, verdict_of}
-use Rattle.mh_judging.specs.TextRules.{checked_refused, history_long, in_checked}
+use Rattle.mh_judging.specs.TextRules.{checked_refused, in_checked, under_bad}
+use Rattle.mh_history.proofs.HistoryLemmas.{history_long}
 use Rattle.mh_history.specs.Beginnings.{HasEntry, entries_left}
 use Rattle.mh_model.specs.declared.command.Event.{Event}
 use Rattle.mh_model.specs.declared.config.Config.{Config}
@@ -148,7 +149,7 @@ module _ {X : Type 0} (version : Version) (Lawful : Config → List X → Type 0
 
 pub check_explains : (config : Config) (known rest : Option Text) (items text : Text) (found : Judgement) → text ≡ items → Consumes known rest items → (length items ≤ 1073741824 → IsAtEnd rest)
     → IsChecked config text (verdict_of found) → IsCheckExplained config text found → Explains (IsCheckExplained config) known found
-check_explains config = text_explains One IsLegal (reading_under config) (IsChecked config) (IsCheckedFault config) (history_long config) (checked_refused config) (in_checked config)
+check_explains config = text_explains One IsLegal (reading_under config) (IsChecked config) (IsCheckedFault config) (λ text long. under_bad config text 0 (history_long text long)) (checked_refused config) (in_checked config)
 
 -- Migrated ---------------------------------------------------------------------------------------
 

@@ -1,6 +1,7 @@
 pub mod AgainLemmas
 pub mod JudgedLemmas
 pub mod MigratedLemmas
+pub mod PromisedLemmas
 pub mod RecordingLemmas
 pub mod RunHistoryLemmas
 pub mod ShownLemmas

@@ -12,6 +12,7 @@ use Rattle.mh_text.specs.Stream.{AppendsBeginning}
 use Rattle.mh_history.specs.Beginnings.{BeginsWithEntry, BeginsWithMeasured}
 use Rattle.mh_judging.specs.declared.judgement.Judgement.{Judgement}
 use Rattle.mh_judging.specs.Judgements.{IsAuditExplained, IsCheckExplained, verdict_of}
+use Rattle.mh_judging.specs.Promised.{HoldsIfLegal, IsPromisedMigration, IsPromisedRecord, IsPromisedUnder}
 use Rattle.mh_script.specs.declared.fault.ScriptFault.{ScriptFault}
 use Rattle.mh_script.specs.declared.fault.ScriptFault.TheVariants.{Read, NoMemory, HistoryFull}
 use Rattle.mh_script.specs.Run.{Device}
@@ -77,9 +78,11 @@ pub record BeginsToMigrate (config : Config) (known old new : Option Text) : Typ
 
 -- Ended ------------------------------------------------------------------------------------------
 
--- A history of a source was judged, of so many bytes at most, and how that ended. If memory is taken for it, it begins so
-pub record IsJudging (Judged : Text → Verdict → Type 0) (Explained : Text → Judgement → Type 0) (Begins : Text → Type 0) (most : ℕ) (source source' sink sink' : Device) (ended : Result Judgement ScriptFault) : Type 0 where
+-- A history of a source was judged, of so many bytes at most, and how that ended. If it is legal, it is promised so, and if memory is taken for it, it begins
+-- so
+pub record IsJudging (Judged : Text → Verdict → Type 0) (Promised : Text → ℕ → Type 0) (Explained : Text → Judgement → Type 0) (Begins : Text → Type 0) (most : ℕ) (source source' sink sink' : Device) (ended : Result Judgement ScriptFault) : Type 0 where
   pub judged : IfOk ended (λ judgement. Judges Judged source.bytes sink.bytes sink'.bytes (verdict_of judgement))
+  pub promise : IfOk ended (HoldsIfLegal Promised source.bytes)
   pub explained : IfOk ended (Explains Explained source.bytes)
   pub begun : OnErr ended (BeginsToJudge Judged source.bytes sink.bytes sink'.bytes)
   pub never_full : ended ≢ Err HistoryFull
@@ -91,15 +94,16 @@ pub record IsJudging (Judged : Text → Verdict → Type 0) (Explained : Text �
 
 -- A history of version 1 was judged under a configuration, and how that ended
 abbrev pub IsChecking : Config → (source source' sink sink' : Device) → Result Judgement ScriptFault → Type 0
-IsChecking config = IsJudging (IsChecked config) (IsCheckExplained config) BeginsWithEntry 1073741824
+IsChecking config = IsJudging (IsChecked config) (IsPromisedUnder config) (IsCheckExplained config) BeginsWithEntry 1073741824
 
 -- a history of version 2 was judged, and how that ended
 abbrev pub IsAuditing : (source source' sink sink' : Device) → Result Judgement ScriptFault → Type 0
-IsAuditing = IsJudging IsAudited IsAuditExplained BeginsWithMeasured 2147483648
+IsAuditing = IsJudging IsAudited IsPromisedRecord IsAuditExplained BeginsWithMeasured 2147483648
 
 -- A history of a source was migrated, and how that ended
 pub record IsMigrating (config : Config) (source source' sink sink' : Device) (ended : Result Judgement ScriptFault) : Type 0 where
   pub migrated : IfOk ended (λ judgement. Migrates config source.bytes sink.bytes sink'.bytes (verdict_of judgement))
+  pub promise : IfOk ended (IsPromisedMigration config source.bytes sink.bytes sink'.bytes)
   pub explained : IfOk ended (Explains (IsCheckExplained config) source.bytes)
   pub begun : OnErr ended (BeginsToMigrate config source.bytes sink.bytes sink'.bytes)
   pub never_full : ended ≢ Err HistoryFull

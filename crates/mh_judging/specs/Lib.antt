@@ -4,6 +4,8 @@ pub mod RunHistory
 pub mod Faults
 pub mod Histories
 pub mod Judgements
+pub mod Promised
 pub mod TextRules
+pub mod OfPromise
 pub mod OfReasons
 pub mod OfScript

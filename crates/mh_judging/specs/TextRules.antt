@@ -1,5 +1,5 @@
 -- Texts of either version as histories: that the model's words for their verdicts say what those of any history do.
-use Rattle.std.proofs.Common.{◌≡◌, ◌∙◌, ℕ, ◌<◌, List, length, ap, refl}
+use Rattle.std.proofs.Common.{◌≡◌, ◌∙◌, ℕ, List, ap, refl}
 use Rattle.mh_model.specs.declared.config.Config.{Config}
 use Rattle.mh_model.specs.declared.history.Entry.{Entry}
 use Rattle.mh_model.specs.declared.history.Measured.{Measured}
@@ -9,7 +9,6 @@ use Rattle.mh_model.specs.History.{IsLegal}
 use Rattle.mh_model.specs.HistoryTexts.{IsAudited, IsChecked, IsLegalRecord, Recorded, history_reading, recorded_reading}
 use Rattle.mh_model.specs.Script.{Reading, BadLine, Means, reading_map}
 use Rattle.mh_history.specs.Beginnings.{after_header}
-use Rattle.mh_history.proofs.HistoryLemmas as history
 use Rattle.mh_judging.specs.declared.entry_fault.EntryFault.{EntryFault}
 use Rattle.mh_judging.specs.Faults.{IsEntryFault, IsMeasuredFault}
 use Rattle.mh_judging.specs.Histories.{History, IsFaultIn, IsVerdictIn, own_reading, reading_under, under}
@@ -17,8 +16,8 @@ use Rattle.mh_judging.specs.Judgements.{IsAuditedFault, IsCheckedFault}
 
 -- Version 1 --------------------------------------------------------------------------------------
 
-pub history_long : (config : Config) (text : Text) → 1073741824 < length text → reading_under config text ≡ BadLine 0
-history_long config text long = ap (under config) (history.history_long text long)
+pub under_bad : (config : Config) (text : Text) (line : ℕ) → history_reading text ≡ BadLine line → reading_under config text ≡ BadLine line
+under_bad config text line is = ap (under config) is
 
 pub checked_in : (config : Config) (text : Text) (verdict : Verdict) → IsVerdictIn IsLegal (reading_under config text) verdict → IsChecked config text verdict
 checked_in config text verdict = by (history_reading text) refl where
@@ -60,9 +59,6 @@ own_lines text config r is = ap (reading_map history_of) is ∙ own_under config
 
 pub own_bad : (text : Text) (line : ℕ) → recorded_reading text ≡ BadLine line → own_reading text ≡ BadLine line
 own_bad text line is = ap (reading_map history_of) is
-
-pub record_long : (text : Text) → 2147483648 < length text → own_reading text ≡ BadLine 0
-record_long text long = own_bad text 0 (history.record_long text long)
 
 pub audited_in : (text : Text) (verdict : Verdict) → IsVerdictIn IsLegalRecord (own_reading text) verdict → IsAudited text verdict
 audited_in text verdict = by (recorded_reading text) refl where

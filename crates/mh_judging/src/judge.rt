@@ -6,6 +6,8 @@
 //! prefix of that line. A failed source or out of memory leaves nothing written. A device failed exactly when it is
 //! blamed. Of a text that is given the same verdict is found.
 //!
+//! The replies of a text that is found legal are those of an outcome that keeps the promise of `mh_promise` (`promise`).
+//!
 //! A fault of the text comes before a bad entry, in whatever lines they are. So entries are judged as they are read,
 //! none is kept, and after the first bad one the lines are still read to the end. The first bad entry is the least
 //! number up to which the history isn't legal. So it is 1,000,001 if the machine's replies are right that far.
@@ -25,6 +27,7 @@ ghost use Rattle.mh_history.specs.Beginnings.{BeginsWithEntry, BeginsWithMeasure
 ghost use Rattle.mh_judging.specs.Judgements.{IsAuditExplained, IsCheckExplained, verdict_of};
 ghost use Rattle.mh_judging.specs.Judged.{BeginsToJudge, Explains, IsVerdictOn, Judges};
 ghost use Rattle.mh_judging.specs.Histories.{IsExplainedAs};
+ghost use Rattle.mh_judging.specs.Promised.{HoldsIfLegal, IsPromisedRecord, IsPromisedUnder};
 ghost use Rattle.mh_script.specs.Texts.{Blames, LeavesSource, WantsMemory};
 
 use crate::explained::judge_text;
@@ -38,6 +41,7 @@ use mh_model::history::{Entry, Measured, Verdict};
 use mh_model::memory::NoMemory;
 use mh_script::fault::ScriptFault;
 use mh_script::mh_machine::judge::Judge;
+use mh_script::mh_promise::promise::replies_are_promised;
 use mh_script::texts::{read_whole, write_verdict};
 use mh_text::device::DeviceFailed;
 use mh_text::pieces::Lines;
@@ -157,6 +161,7 @@ pub fn check_script<S: Source, W: Sink>(
     requires source_count { S.failures source.old < 2 ^ 62 }
     requires sink_count { W.failures sink.old < 2 ^ 62 }
     ensures judged { IfOk result (λ judgement. Judges (IsChecked config) (S.rest source.old) (W.written sink.old) (W.written sink.new) (verdict_of judgement)) }
+    ensures promise { IfOk result (HoldsIfLegal (IsPromisedUnder config) (S.rest source.old)) }
     ensures explained { IfOk result (Explains (IsCheckExplained config) (S.rest source.old)) }
     ensures begun { OnErr result (BeginsToJudge (IsChecked config) (S.rest source.old) (W.written sink.old) (W.written sink.new)) }
     ensures never_full { result ≢ Err ScriptFault.HistoryFull }
@@ -166,6 +171,7 @@ pub fn check_script<S: Source, W: Sink>(
     ensures taken { LeavesSource HISTORY_BYTES (S.rest source.old) (S.rest source.new) result }
     ensures blames { Blames (S.failures source.old) (S.failures source.new) (W.failures sink.old) (W.failures sink.new) result }
 {
+    replies_are_promised();
     judge_script::<Entry, S, W>(alloc, config, source, sink)
 }
 
@@ -179,6 +185,7 @@ pub fn audit_script<S: Source, W: Sink>(
     requires source_count { S.failures source.old < 2 ^ 62 }
     requires sink_count { W.failures sink.old < 2 ^ 62 }
     ensures judged { IfOk result (λ judgement. Judges IsAudited (S.rest source.old) (W.written sink.old) (W.written sink.new) (verdict_of judgement)) }
+    ensures promise { IfOk result (HoldsIfLegal IsPromisedRecord (S.rest source.old)) }
     ensures explained { IfOk result (Explains IsAuditExplained (S.rest source.old)) }
     ensures begun { OnErr result (BeginsToJudge IsAudited (S.rest source.old) (W.written sink.old) (W.written sink.new)) }
     ensures never_full { result ≢ Err ScriptFault.HistoryFull }
@@ -188,5 +195,6 @@ pub fn audit_script<S: Source, W: Sink>(
     ensures taken { LeavesSource RECORD_BYTES (S.rest source.old) (S.rest source.new) result }
     ensures blames { Blames (S.failures source.old) (S.failures source.new) (W.failures sink.old) (W.failures sink.new) result }
 {
+    replies_are_promised();
     judge_script::<Measured, S, W>(alloc, (), source, sink)
 }

@@ -1,7 +1,8 @@
 //! Histories of version 1 that become histories of version 2.
 //!
 //! A legal one is written as one of the second version, which is legal and has as many entries. Of any other text the
-//! line of its verdict is written, and what is reported beside the verdict is true of the text. A failed source
+//! line of its verdict is written, and what is reported beside the verdict is true of the text. The replies of a legal
+//! one, and of what is written of it, are those of an outcome that keeps the promise of `mh_promise`. A failed source
 //! leaves nothing written. Whatever else ends this early leaves a prefix. A device failed exactly when it is blamed.
 //! Memory is refused only for bytes that the source gave, or for a text that begins with an entry or is a history.
 //!
@@ -17,6 +18,7 @@ ghost use Rattle.mh_model.specs.declared.history.Verdict.TheVariants as verdict;
 ghost use Rattle.mh_model.specs.HistoryTexts.{IsChecked, verdict_text};
 ghost use Rattle.mh_text.specs.Stream.{AppendsBeginning};
 ghost use Rattle.mh_judging.specs.Judged.{BeginsMigration, BeginsToMigrate, Explains, Migrates, MigratesText, TakesToMigrate};
+ghost use Rattle.mh_judging.specs.Promised.{IsPromisedMigration};
 ghost use Rattle.mh_script.specs.Texts.{Blames, BlamesSink, LeavesSource, WantsMemory};
 
 use crate::explained::judge_history;
@@ -25,6 +27,7 @@ use crate::record::write_lines;
 use mh_history::history::{HISTORY_BYTES, history_lines};
 use mh_model::config::Config;
 use mh_script::fault::ScriptFault;
+use mh_script::mh_promise::promise::replies_are_promised;
 use mh_script::texts::{read_whole, write_verdict};
 use mh_text::device::DeviceFailed;
 use mh_text::sink::Sink;
@@ -102,6 +105,7 @@ pub fn migrate_script<S: Source, W: Sink>(
     requires first { config.rules ≡ First }
     requires source_count { S.failures source.old < 2 ^ 62 }
     requires sink_count { W.failures sink.old < 2 ^ 62 }
+    ensures promise { IfOk result (IsPromisedMigration config (S.rest source.old) (W.written sink.old) (W.written sink.new)) }
     ensures migrated { IfOk result (λ judgement. Migrates config (S.rest source.old) (W.written sink.old) (W.written sink.new) (verdict_of judgement)) }
     ensures explained { IfOk result (Explains (IsCheckExplained config) (S.rest source.old)) }
     ensures begun { OnErr result (BeginsToMigrate config (S.rest source.old) (W.written sink.old) (W.written sink.new)) }
@@ -113,6 +117,7 @@ pub fn migrate_script<S: Source, W: Sink>(
 {
     texts_are_migrated();
     migrated_texts_are_legal();
+    replies_are_promised();
     let text = read_whole(alloc, source, HISTORY_BYTES)?;
     write_migrated(alloc, config, text.as_slice(), sink)
 }

@@ -1,5 +1,7 @@
 //! Runs of scripts that are written as their histories.
 //!
+//! The replies in what was written are those of an outcome that keeps the promise (`promise`), as those of `run_script`.
+//!
 //! A run that ends well has written its history in the second version and nothing else, or the line that refuses the
 //! script. That history is legal if it isn't too long. Whatever ends the run early leaves a prefix of it. The number
 //! of workers changes nothing of this. All else that is said of `run_script` holds too.
@@ -10,15 +12,17 @@ ghost use Rattle.std.specs.Prelude.{◌<◌, ◌≤◌, ◌^◌, IfOk, OnErr, Is
 ghost use Rattle.std.specs.Io.KnownBytes.{Keeps};
 ghost use Rattle.mh_model.specs.Output as model;
 ghost use Rattle.mh_model.specs.RunHistories.{history_output};
+ghost use Rattle.mh_script.specs.Promised.{KeepsPromise};
 ghost use Rattle.mh_script.specs.Run.{EndsAs, HasReason, Outputs, TakesToRun, WritesBeginning};
 ghost use Rattle.mh_script.specs.Texts.{LeavesSource, Blames, WantsMemory};
-ghost use Rattle.mh_judging.specs.RunHistory.{IsLegalEnd, WritesLegal, history_run};
+ghost use Rattle.mh_judging.specs.RunHistory.{AreRecorded, IsLegalEnd, WritesLegal, history_run};
 
 use crate::record::write_run;
 use mh_model::command::Event;
 use mh_model::config::{Config, Rules};
 use mh_script::end::End;
 use mh_script::fault::{ScriptFault, WriteError};
+use mh_script::mh_promise::promise::replies_are_promised;
 use mh_script::mh_scan::crew_scan::{CrewGate, CrewScan};
 use mh_script::mh_scan::scan::Scanner;
 use mh_script::transcript::{Transcript, transcribe};
@@ -66,6 +70,7 @@ pub fn run_history<R: Threads, S: Source, W: Sink, G: CrewGate>(
     requires workers { (0 < workers) × (workers ≤ 64) }
     requires source_count { S.failures source.old < 2 ^ 62 }
     requires sink_count { W.failures sink.old < 2 ^ 62 }
+    ensures promise { KeepsPromise AreRecorded rules (S.rest source.old) (W.written sink.old) (W.written sink.new) result }
     ensures ends { IfOk result (EndsAs (history_output rules) (S.rest source.old) (W.written sink.old) (W.written sink.new)) }
     ensures legal { IfOk result (IsLegalEnd rules (S.rest source.old) (W.written sink.old) (W.written sink.new)) }
     ensures reason { IfOk result (HasReason (S.rest source.old)) }
@@ -78,6 +83,7 @@ pub fn run_history<R: Threads, S: Source, W: Sink, G: CrewGate>(
     ensures blames { Blames (S.failures source.old) (S.failures source.new) (W.failures sink.old) (W.failures sink.new) result }
 {
     run_histories_are_legal();
+    replies_are_promised();
     let mut scanner = CrewScan::new(rt, alloc, workers, gate);
     transcribe(alloc, &mut History, source, sink, rules, &mut scanner)
 }

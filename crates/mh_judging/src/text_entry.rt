@@ -3,12 +3,13 @@
 //! This is all in which the versions differ for a judge of texts: the first line, the words that say of a text what its
 //! verdict is, and what may be wrong with an entry.
 ghost use Rattle.std.specs.Prelude.{◌≡◌, ◌<◌, ◌≤◌, ℕ, length, IfOk, IfErr};
+ghost use Rattle.mh_history.proofs.HistoryLemmas.{history_long, record_long};
 ghost use Rattle.mh_history.specs.Beginnings.{BeginsWithEntry, BeginsWithMeasured, HasEntry, entries_left};
 ghost use Rattle.mh_judging.specs.declared.entry_fault.EntryFault.{EntryFault};
 ghost use Rattle.mh_judging.specs.Faults.{IsEntryFault, IsMeasuredFault, IsRight};
 ghost use Rattle.mh_judging.specs.Histories.{History, IsFaultIn, IsVerdictIn, own_reading, reading_under, under};
 ghost use Rattle.mh_judging.specs.Judgements.{IsAuditedFault, IsCheckedFault};
-ghost use Rattle.mh_judging.specs.TextRules.{audited_fault, audited_in, audited_refused, checked_fault, checked_in, checked_refused, history_long, in_audited, in_checked, record_long};
+ghost use Rattle.mh_judging.specs.TextRules.{audited_fault, audited_in, audited_refused, checked_fault, checked_in, checked_refused, in_audited, in_checked, own_bad, under_bad};
 ghost use Rattle.mh_model.specs.declared.history.Verdict.{Verdict};
 ghost use Rattle.mh_model.specs.declared.history.Version.TheVariants.{One, Two};
 ghost use Rattle.mh_model.specs.declared.history.Version.{Version};
@@ -115,7 +116,7 @@ impl TextEntry for Entry {
         reply_fault(self.reply, right.entry.reply)
     }
 
-    ghost long = { history_long };
+    ghost long = { λ config text long. under_bad config text 0 (history_long text long) };
 
     ghost short = { λ text begins. begins.short };
 
@@ -174,7 +175,7 @@ impl TextEntry for Measured {
         }
     }
 
-    ghost long = { λ given. record_long };
+    ghost long = { λ given text long. own_bad text 0 (record_long text long) };
 
     ghost short = { λ text begins. begins.short };
 

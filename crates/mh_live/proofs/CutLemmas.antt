@@ -17,11 +17,9 @@ step byte ends cut = if ends then record { pieces = [] ∷ cut.pieces; rest = cu
 step-followed : (byte : ℕ) (ends : Bool) (pieces : List Text) (rest : Text) (more : List Text) (last : Text)
     → step byte ends (followed (record { pieces = pieces; rest = rest }) (record { pieces = more; rest = last })) ≡ followed (step byte ends (record { pieces = pieces; rest = rest })) (record { pieces = more; rest = last })
 step-followed byte true pieces rest [] last = refl
-step-followed byte true pieces rest (piece ∷ more) last = refl
 step-followed byte false [] rest [] last = refl
-step-followed byte false [] rest (piece ∷ more) last = refl
 step-followed byte false (first ∷ pieces) rest [] last = refl
-step-followed byte false (first ∷ pieces) rest (piece ∷ more) last = refl
+step-followed byte ends pieces rest more last = refl
 
 none-followed : (pieces : List Text) (rest : Text) → followed (record { pieces = []; rest = [] }) (record { pieces = pieces; rest = rest }) ≡ record { pieces = pieces; rest = rest }
 none-followed [] rest = refl

@@ -2,5 +2,6 @@ pub mod CutLemmas
 pub mod TurnLemmas
 pub mod FeedLemmas
 pub mod LineTurns
+pub mod PromiseLemmas
 pub mod RunAnswers
 pub mod WorldLemmas

@@ -54,8 +54,7 @@ asks-calls (Some control) e = cc
 blank_turn : (n : ℕ) (live : Live) (line : Text) → is_blank line ≡ true → turn n live line ≡ record { text = []; live = live }
 unfolding turn
 blank_turn n Waits line blank = rw blank refl
-blank_turn n (Runs machine names count) line blank = rw blank refl
-blank_turn n (Grows world names count) line blank = rw blank refl
+blank_turn n other line blank = rw blank refl
 
 refused_turn : (n : ℕ) (line : Text) → is_blank line ≡ false → config_words (words line) ≡ None → turn n Waits line ≡ record { text = line_text (bad_line_text n); live = Waits }
 unfolding turn
@@ -113,11 +112,8 @@ calls_says line name said is wrong = calls-wrong (sym is ∙ wrong)
 -- a control that may ask for memory is one for which the line needs it
 control_asks : (says : Control) (room : ℕ) → MayAskForMemory room (event.Control says) → needs_memory (Asks says) ≡ true
 control_asks control.Quantum room asks = refl
-control_asks control.Start room asks = absurd asks
-control_asks control.Stat room asks = absurd asks
 control_asks control.Dump room asks = refl
-control_asks control.Left room asks = absurd asks
-control_asks (control.Report window) room asks = absurd asks
+control_asks asked room asks = absurd asks
 
 module _ (n : ℕ) (old : Running) (names : List Text) (line : Text) where
   abbrev before : Live
@@ -180,17 +176,7 @@ module _ (n : ℕ) (old : Grown) (names : List Text) (line : Text) where
   -- memory is refused for a new object alone
   makes : (name : Text) (said : Command) → IsNew said → refusal (sight_of never_full old.world) (session_number names name) said ≡ None → makes_object old.world names (Calls name said) ≡ true
   makes name (command.New slot references numbers) new none = ap is_none none
-  makes name (command.Get slot source field) new none = absurd new
-  makes name (command.Put slot field value) new none = absurd new
-  makes name (command.Copy slot source) new none = absurd new
-  makes name (command.Clear slot) new none = absurd new
-  makes name (command.Read slot index) new none = absurd new
-  makes name (command.Write slot index number) new none = absurd new
-  makes name (command.Same left right) new none = absurd new
-  makes name (command.Shape slot) new none = absurd new
-  makes name (command.Post board slot) new none = absurd new
-  makes name (command.Take slot board) new none = absurd new
-  makes name command.End new none = absurd new
+  makes name asked new none = absurd new
 
   pub calls_grows : (name : Text) (said : Command) (new : Grown) (text : Text) (is_done : Bool) (after : List Text) → line_of line ≡ Calls name said → IsAnsweredOrNotGrown old (session_number names name) said text new is_done
       → after ≡ (if is_done then with_name names name else names) → IsTurn n world_before line (record { text = text; live = Grows new.world after new.done })

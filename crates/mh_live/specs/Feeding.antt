@@ -1,11 +1,12 @@
 -- What the lines that came so far were answered, and what was told of them.
-use Rattle.std.specs.Prelude.{◌≡◌, ℕ, suc, Option, List, [], ◌∷◌, ◌++◌, length, Result, IfErr, OnOk, IsErrOf}
+use Rattle.std.specs.Prelude.{◌≡◌, ℕ, suc, Option, List, [], ◌∷◌, ◌++◌, length, Result, Ok, Err, IfErr, OnOk, IsErrOf}
 use Rattle.std.specs.Io.KnownBytes.{Appends, Consumes, IsAtEnd}
 use Rattle.mh_model.specs.Bytes.{Text, cut_after}
-use Rattle.mh_model.specs.Live.{Live, Turn, IsTurn, IsLive, unended_text}
+use Rattle.mh_model.specs.Live.{Live, Turn, Waits, IsTurn, IsLive, unended_text}
 use Rattle.mh_text.specs.Stream.{ConsumesSome}
 use Rattle.mh_live.specs.declared.feed.Feed.{Feed}
 use Rattle.mh_live.specs.Heard.{AreHeard, IsHeard, IsLiveHeard}
+use Rattle.mh_live.specs.Promised.{ArePromisedAnswers}
 use Rattle.mh_script.specs.declared.end.LineRefusal.{LineRefusal}
 use Rattle.mh_script.specs.declared.fault.ScriptFault.{ScriptFault}
 use Rattle.mh_script.specs.declared.fault.ScriptFault.TheVariants.{Read, Write, NoMemory}
@@ -114,8 +115,31 @@ pub record AnswersWhole (opened : Live) (Hears : List LineRefusal → Type 0) (s
   pub wrote : Appends sink sink' answers
   pub heard : Hears refusals
 
+-- this text was written after the answers to some lines, when a run ended so. At the end of the source it is the refusal of a last line without its end.
+-- A failed source leaves none. Another fault leaves a prefix of the next answer, and may leave lines unanswered
+abbrev pub FollowsAnswers : Result Unit ScriptFault → ℕ → Live → List Text → Text → Text → Type 0
+FollowsAnswers (Ok ended) n after later rest last = (later ≡ []) × (last ≡ unended_text n rest)
+FollowsAnswers (Err Read) n after later rest last = (later ≡ []) × (last ≡ [])
+FollowsAnswers (Err fault) n after later rest last = BeginsAnswer n after later rest last × MayEndWith fault last
+
+-- A run that waited for its configuration kept the promise, and ended so. These lines of the text that was read were answered, and their answers show
+-- replies that keep it. What else was written follows them
+pub record KeepsLivePromise (source source' sink sink' : Option Text) (ended : Result Unit ScriptFault) : Type 0 where
+  pub text : Text
+  pub read : Consumes source source' text
+  pub lines : List Text
+  pub later : List Text
+  pub parts : (cut_after 10 text).pieces ≡ lines ++ later
+  pub answers : Text
+  pub after : Live
+  pub promise : ArePromisedAnswers 1 lines answers after
+  pub last : Text
+  pub follows : FollowsAnswers ended (suc (length lines)) after later (cut_after 10 text).rest last
+  pub wrote : Appends sink sink' (answers ++ last)
+
 -- Lines of a source were answered as they came and the refused ones told, and how that ended
 pub record IsLiveRun (opened : Live) (Hears : List LineRefusal → Type 0) (source source' sink sink' : Device) (ended : Result Unit ScriptFault) : Type 0 where
+  pub promise : opened ≡ Waits → KeepsLivePromise source.bytes source'.bytes sink.bytes sink'.bytes ended
   pub answered : OnOk ended (AnswersAll opened Hears source.bytes source'.bytes sink.bytes sink'.bytes)
   pub begun : IfErr ended (AnswersFront opened Hears source.bytes source'.bytes sink.bytes sink'.bytes)
   pub prompt : IsErrOf ended Read → AnswersWhole opened Hears source.bytes source'.bytes sink.bytes sink'.bytes

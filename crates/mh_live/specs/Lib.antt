@@ -4,4 +4,5 @@ pub mod Heard
 pub mod Laws
 pub mod OfMachine
 pub mod OfScript
+pub mod Promised
 pub mod Worlds

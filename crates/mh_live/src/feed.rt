@@ -7,6 +7,9 @@
 //! with out of memory only if the source gave some byte (`memory`). It ends so if memory is refused for the bytes of a
 //! line, or for the text of a reply that is no dump. The number of workers changes nothing of this.
 //!
+//! Of a run that waits for its configuration, the answers show replies of an outcome that keeps the promise of `mh_promise`
+//! (`promise`). It is the promise of the events that the answered lines did, however the run ends.
+//!
 //! The listener hears of exactly the lines that were refused, in order, each with its number and a reason that is true
 //! of it. If the run ends early, it has heard of those whose answers were written whole. It hears after the answer, so
 //! whoever waits for the answer never waits for the listener.
@@ -15,10 +18,10 @@
 ghost use Rattle.std.specs.Prelude.{◌≡◌, ◌<◌, ◌≤◌, ◌^◌, ◌++◌, [], Option, IfErr, OnOk, OnErr, IsErrOf, length};
 ghost use Rattle.mh_model.specs.Bytes.{Text};
 ghost use Rattle.mh_text.specs.Stream.{ConsumesSome};
-ghost use Rattle.mh_live.specs.Feeding.{AnswersAll, AnswersFront, AnswersSome, AnswersWhole, IsFed, MayBegin, TakesTurn, TurnsPartly, WritesPrefix};
+ghost use Rattle.mh_live.specs.Feeding.{AnswersAll, AnswersFront, AnswersSome, AnswersWhole, IsFed, KeepsLivePromise, MayBegin, TakesTurn, TurnsPartly, WritesPrefix};
 ghost use Rattle.mh_live.specs.Heard.{HeardRefusal, refusal_of, unended_refusal};
 ghost use Rattle.mh_model.specs.Live as model;
-ghost use Rattle.mh_model.specs.Live.{unended_text};
+ghost use Rattle.mh_model.specs.Live.{Waits, unended_text};
 ghost use Rattle.mh_script.specs.Texts.{Blames};
 ghost use Rattle.std.specs.Io.KnownBytes.{Appends};
 
@@ -27,6 +30,7 @@ use crate::listener::Listener;
 use crate::live::Live;
 use mh_script::end::LineRefusal;
 use mh_script::fault::{ScriptFault, WriteError};
+use mh_script::mh_promise::promise::replies_are_promised;
 use mh_script::mh_reasons::reason::{LineReason, ScriptReason};
 use mh_script::mh_scan::crew_scan::{CrewGate, CrewScan};
 use mh_script::mh_scan::scan::Scanner;
@@ -183,6 +187,7 @@ pub fn run_live<R: Threads, S: Source, W: Sink, L: Listener, G: CrewGate>(
     requires workers { (0 < workers) × (workers ≤ 64) }
     requires source_count { S.failures source.old < 2 ^ 62 }
     requires sink_count { W.failures sink.old < 2 ^ 62 }
+    ensures promise { live ≡ Waits → KeepsLivePromise (S.rest source.old) (S.rest source.new) (W.written sink.old) (W.written sink.new) result }
     ensures answered { OnOk result (AnswersAll live (λ refusals. L.hears listener.old refusals listener.new) (S.rest source.old) (S.rest source.new) (W.written sink.old) (W.written sink.new)) }
     ensures begun { IfErr result (AnswersFront live (λ refusals. L.hears listener.old refusals listener.new) (S.rest source.old) (S.rest source.new) (W.written sink.old) (W.written sink.new)) }
     ensures prompt { IsErrOf result ScriptFault.Read → AnswersWhole live (λ refusals. L.hears listener.old refusals listener.new) (S.rest source.old) (S.rest source.new) (W.written sink.old) (W.written sink.new) }
@@ -191,6 +196,7 @@ pub fn run_live<R: Threads, S: Source, W: Sink, L: Listener, G: CrewGate>(
     ensures memory { IsErrOf result ScriptFault.NoMemory → ConsumesSome (S.rest source.old) (S.rest source.new) }
     ensures blames { Blames (S.failures source.old) (S.failures source.new) (W.failures sink.old) (W.failures sink.new) result }
 {
+    replies_are_promised();
     let mut scanner = CrewScan::new(rt, alloc, workers, gate);
     let mut feed = Feed::new(alloc, live);
     let mut chunk = [0u8; CHUNK];

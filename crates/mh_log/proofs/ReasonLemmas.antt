@@ -178,15 +178,10 @@ module _ (n : ℕ) (mid new : Lines) (number : ℕ) (line : Text) (takes : Takes
 
 -- what is said of a line is said of the text
 at_line : (text : Text) (n : ℕ) (between : List Text) (line : Text) (of : LogReason) → IsLaterLine text n between line → IsLineReason (begins_order between) line of → IsLogReason text n of
-at_line text n between line reason.TooLong at is = absurd is
-at_line text n between line reason.Empty at is = absurd is
-at_line text n between line reason.NoNewline at is = absurd is
-at_line text n between line reason.NotLog at is = absurd is
-at_line text n between line reason.NoOrder at is = absurd is
-at_line text n between line reason.CommandsLeft at is = absurd is
 at_line text n between line (reason.Command of) at is = (between, line, at, is)
 at_line text n between line (reason.NoSession quoted) at is = (between, line, at, is)
 at_line text n between line (reason.NoneLeft quoted) at is = (between, line, at, is)
+at_line text n between line other at is = absurd is
 
 pub told_line : (text : Text) (n : ℕ) (in_order : Bool) (mid new : Lines) (number : ℕ) (line : Text) (of : LogReason) → TakesLine mid new number line → number ≡ n → HasPassed text n in_order mid → IsLineReason in_order line of → IsLogReason text n of
 told_line text n in_order mid new number line of takes reached has is =

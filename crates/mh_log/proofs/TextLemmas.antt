@@ -47,14 +47,12 @@ module _ (rules : Rules) (text : Text) where
 -- the reason of line 0 is that a text is too long, which more bytes don't change
 reason_long : (text rest : Text) (of : LogReason) → IsLogReason text 0 of → IsLogReason (text ++ rest) 0 of
 reason_long text rest reason.TooLong is = (refl, omega (arith, is.1, length-append text rest))
-reason_long text rest reason.Empty is = cc
-reason_long text rest reason.NoNewline is = cc
-reason_long text rest reason.NotLog is = cc
 reason_long text rest reason.NoOrder is = let numbered = is.0.numbered in cc
 reason_long text rest reason.CommandsLeft is = let numbered = is.0.numbered in cc
 reason_long text rest (reason.Command of) is = let numbered = is.2.numbered in cc
 reason_long text rest (reason.NoSession quoted) is = let numbered = is.2.numbered in cc
 reason_long text rest (reason.NoneLeft quoted) is = let numbered = is.2.numbered in cc
+reason_long text rest other is = cc
 
 module _ (rules : Rules) (text rest : Text) (whole : length text ≤ 2147483648 → rest ≡ []) where
   same_text : length text ≤ 2147483648 → text ≡ text ++ rest

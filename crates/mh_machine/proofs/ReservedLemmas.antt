@@ -25,11 +25,8 @@ has-left enough whole (Forgotten count old new since forgets) =
 room-enough : (room : ℕ) (event : Event) → 2 ≤ room → is_dump event ≡ false → ¬ MayAskForMemory room event
 room-enough room (event.Session who command) enough other asks = omega (arith, enough, asks)
 room-enough room (event.Control control.Quantum) enough other asks = omega (arith, enough, asks)
-room-enough room (event.Control control.Start) enough other asks = asks
-room-enough room (event.Control control.Stat) enough other asks = asks
 room-enough room (event.Control control.Dump) enough other asks = true≢false other
-room-enough room (event.Control control.Left) enough other asks = asks
-room-enough room (event.Control (control.Report window)) enough other asks = asks
+room-enough room (event.Control asked) enough other asks = asks
 
 pub reserved-none : ReservedEventsAskForNoMemory
 reserved-none room before first new count event reserves since few other =

@@ -10,8 +10,7 @@ use Rattle.mh_model.specs.History.{IsLegal}
 use Rattle.mh_model.specs.Limits.{most_entries}
 use Rattle.mh_model.specs.HistoryTexts.{IsLegalRecord, measured_step, machine_record}
 use Rattle.mh_model.specs.Machine.{Machine, first_machine, event_step, machine_after, machine_replies}
-use Rattle.mh_run_laws.specs.Replays.{machine_at}
-use Rattle.mh_run_laws.proofs.runs.RunsByEvents.{replies_more, no-replies}
+use Rattle.mh_run_laws.specs.Replays.{MachineRepliesMore, machine_at}
 use Rattle.mh_machine.specs.Judging.{HasItsReply, IsEventRule, IsMeasured}
 
 none_are_few : 0 ≤ most_entries
@@ -26,20 +25,21 @@ event_of entry = entry.event
 abbrev reply_of : Entry → Reply
 reply_of entry = entry.reply
 
-answers-push : (config : Config) (xs : List Entry) (x : Entry) → machine_replies (first_machine config) (map event_of (xs ++ x ∷ []))
+answers-push : MachineRepliesMore → (config : Config) (xs : List Entry) (x : Entry) → machine_replies (first_machine config) (map event_of (xs ++ x ∷ []))
     ≡ machine_replies (first_machine config) (map event_of xs) ++ (event_step (machine_at config (map event_of xs)) x.event).reply ∷ []
-answers-push config xs x = ap (machine_replies (first_machine config)) (map-append event_of xs (x ∷ [])) ∙ replies_more.event (first_machine config) (map event_of xs) x.event
+answers-push replies_more config xs x = ap (machine_replies (first_machine config)) (map-append event_of xs (x ∷ [])) ∙ replies_more.event (first_machine config) (map event_of xs) x.event
 
-pub legal_rule : (config : Config) → IsEventRule config event_of HasItsReply (IsLegal config)
-legal_rule config = record {
-  empty = record { few = none_are_few; replies = no-replies config };
+pub legal_rule : MachineRepliesMore → (config : Config) → IsEventRule config event_of HasItsReply (IsLegal config)
+unfolding machine_replies
+legal_rule replies_more config = record {
+  empty = record { few = none_are_few; replies = refl };
   few = λ xs legal. legal.few;
   more = λ xs x legal few fits. record {
     few = few;
     replies = map-append reply_of xs (x ∷ []) ∙ ap (λ replies. replies ++ x.reply ∷ []) legal.replies ∙ ap (λ reply. machine_replies (first_machine config) (map event_of xs) ++ reply ∷ []) fits
-        ∙ sym (answers-push config xs x);
+        ∙ sym (answers-push replies_more config xs x);
   };
-  last = λ xs x legal. (same_from_push _ _ _ _ (sym (map-append reply_of xs (x ∷ [])) ∙ legal.replies ∙ answers-push config xs x)).1;
+  last = λ xs x legal. (same_from_push _ _ _ _ (sym (map-append reply_of xs (x ∷ [])) ∙ legal.replies ∙ answers-push replies_more config xs x)).1;
 }
 
 -- Records ----------------------------------------------------------------------------------------
@@ -59,13 +59,10 @@ record-push : (config : Config) (xs : List Measured) (x : Measured) → machine_
 record-push config xs x =
     ap (machine_record (first_machine config)) (map-append measured_event xs (x ∷ [])) ∙ record-more (first_machine config) (map measured_event xs) x.entry.event
 
-no-record : (config : Config) → [] ≡ machine_record (first_machine config) []
-unfolding machine_record
-no-record config = refl
-
 pub record_rule : (config : Config) → IsEventRule config measured_event IsMeasured (IsLegalRecord config)
+unfolding machine_record
 record_rule config = record {
-  empty = record { few = none_are_few; same = no-record config };
+  empty = record { few = none_are_few; same = refl };
   few = λ xs legal. legal.few;
   more = λ xs x legal few fits. record {
     few = few;

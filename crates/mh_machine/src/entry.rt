@@ -8,6 +8,7 @@ ghost use Rattle.mh_model.specs.declared.config.Config.{Config};
 ghost use Rattle.mh_model.specs.History.{IsLegal};
 ghost use Rattle.mh_model.specs.HistoryTexts.{IsLegalRecord};
 ghost use Rattle.mh_model.specs.Machine as model;
+ghost use Rattle.mh_run_laws.proofs.runs.RunsByEvents.{replies_more};
 ghost use Rattle.mh_machine.specs.Judging.{HasItsReply, IsEventRule, IsMeasured, IsTried};
 ghost use Rattle.mh_machine.specs.Running.{MayAskForMemory};
 ghost use Rattle.mh_machine.specs.Rules.{legal_rule, record_rule};
@@ -60,7 +61,7 @@ impl JudgedEntry for Entry {
         Ok(is_same(&self.reply, &reply))
     }
 
-    ghost rule = { legal_rule };
+    ghost rule = { legal_rule replies_more };
 }
 
 impl JudgedEntry for Measured {

@@ -6,7 +6,8 @@
 //!
 //! It doesn't keep what is wrong with the bad entry, since it would need the right reply beside each. `fault_in` of
 //! `mh_judging` finds that by a second replay up to the bad entry, so judging costs nothing more for a legal history.
-//! `check` and `audit` open a machine before anything else, so no clause says when memory is refused to them.
+//! `check` and `audit` judge a history that lies in memory, for users of this crate: here tests alone call them. They
+//! open a machine before anything else, so no clause says when memory is refused to them.
 ghost use Rattle.std.specs.Prelude.{◌≡◌, [], ◌∷◌, ◌++◌, List, IsSome, IsOk, IfOk, IfErr, OnOk, OnErr};
 ghost use Rattle.mh_model.specs.declared.config.Config.{Config};
 ghost use Rattle.mh_model.specs.declared.history.Entry.{Entry};

@@ -12,17 +12,9 @@ births-with_change world (Some birth) change = length-set _ _ _
 
 births-effect : (world : World) (who : ℕ) (command : Command) → births (effect world who command).state ≤ births world + 1
 births-effect world who (command.New slot references numbers) = omega (arith, length-append {A = Option Object})
-births-effect world who (command.Get slot source field) = omega arith
 births-effect world who (command.Put slot field value) = omega (arith, births-with_change)
-births-effect world who (command.Copy slot source) = omega arith
-births-effect world who (command.Clear slot) = omega arith
-births-effect world who (command.Read slot index) = omega arith
 births-effect world who (command.Write slot index number) = omega (arith, births-with_change)
-births-effect world who (command.Same left right) = omega arith
-births-effect world who (command.Shape slot) = omega arith
-births-effect world who (command.Post board slot) = omega arith
-births-effect world who (command.Take slot board) = omega arith
-births-effect world who command.End = omega arith
+births-effect world who other = omega arith
 
 births-unless_refused : (refused : Option Refusal) (world : World) (answer : Answer World) → births answer.state ≤ births world + 1 → births (unless_refused refused world answer).state ≤ births world + 1
 births-unless_refused None world answer below = below

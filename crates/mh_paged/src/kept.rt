@@ -5,8 +5,9 @@
 //! cycle and ends a cycle with exactly what that reached or was born since (`keeps`). It starts a cycle with what is
 //! reachable in the heap's view (`starts`). It leaves no forwarders but those that it made (`forwarders`).
 //!
-//! `start` asks for a cycle. These are read: free pages, live blocks, forwarders, phase and cycles; the table and its
-//! dump; the root slots, the cursor and the grey list; births, the quanta left, the limit of a quantum.
+//! `start` asks for a cycle, and keeps each snapshot (`keeps`). These are read: free pages, live blocks, forwarders,
+//! phase and cycles; the table and its dump; the root slots, the cursor and the grey list; births, the quanta left, the
+//! limit of a quantum.
 //!
 //! The heap has a `drop` of its own, which takes it apart and does nothing else. So whoever owns one proves one call
 //! when it is dropped. A derived drop is proved table by table in the proof of each owner, at each of its ends: some 25
@@ -25,7 +26,7 @@ ghost use Rattle.mh_model.specs.Limits.{root_slots};
 ghost use Rattle.mh_laws.specs.Forwarders.{MakesItsForwarders};
 ghost use Rattle.mh_cycle.specs.Snapshots.{ContinuesEach};
 ghost use Rattle.mh_heap.specs.Checks.{tested};
-ghost use Rattle.mh_paged.specs.Kept.{StartsFromItsView};
+ghost use Rattle.mh_paged.specs.Kept.{KeepsEachWorld, StartsFromItsView};
 ghost use Rattle.mh_paged.specs.Lawful.{IsLawful};
 
 use crate::lent::{dump_table, forwarder_count, free_pages, live_count, root, shape_of};
@@ -131,7 +132,8 @@ impl KeptHeap {
 
     /// Asks for a cycle, which the next quantum starts that finds none running.
     pub fn start(&mut self)
-        ensures { self.new ≡ record (self.old) { collector = record (self.old.collector) { is_asked = true } } }
+        ensures after { self.new ≡ record (self.old) { collector = record (self.old.collector) { is_asked = true } } }
+        ensures keeps { KeepsEachWorld self.old self.new }
     {
         heaps_stay_kept();
         collectors_stay_in_bounds();

@@ -5,8 +5,8 @@
 //!
 //! It meets the laws of `Heap` on its view, and never answers a command that there is no memory. A command takes none,
 //! and keeps each world that is taken as the snapshot of the running cycle (`keeps`). A quantum is that of `KeptHeap`,
-//! as what `Heap::quantum` collects. `start` asks for a cycle. What is read of `KeptHeap` is read here, but for its
-//! root slots.
+//! as what `Heap::quantum` collects. `start` asks for a cycle, and keeps each such world too. What is read of `KeptHeap`
+//! is read here, but for its root slots.
 ghost use Rattle.std.specs.Prelude.{◌≡◌, ◌<◌, true, IfOk};
 ghost use Rattle.mh_model.specs.declared.birth.TheConstants.{LIFE};
 ghost use Rattle.mh_model.specs.Pages.{free_pages};
@@ -50,7 +50,8 @@ impl PagedHeap {
 
     /// Asks for a cycle, which the next quantum starts that finds none running.
     pub fn start(&mut self)
-        ensures { self.new.kept ≡ record (self.old.kept) { collector = record (self.old.kept.collector) { is_asked = true } } }
+        ensures after { self.new.kept ≡ record (self.old.kept) { collector = record (self.old.kept.collector) { is_asked = true } } }
+        ensures keeps { KeepsEachWorld self.old.kept self.new.kept }
     {
         let kept = &mut self.kept;
         kept.start();

@@ -150,27 +150,11 @@ no_number (byte ∷ bytes) first given none is unit count one = by (byte == 35) 
 
 -- a reason of the words after a unit is one of all words, and that is one of the line
 pub of_count : (n : ℕ) (begun : Bool) (first : Text) (given : List Text) (r : PauseReason) → is_unit first ≡ true → IsCountReason given r → IsWordsReason n begun (first ∷ given) r
-of_count n begun first given reason.TooLong unit is = absurd is
-of_count n begun first given reason.TooManyUnits unit is = absurd is
-of_count n begun first given reason.Empty unit is = absurd is
-of_count n begun first given reason.NoNewline unit is = absurd is
-of_count n begun first given reason.Comment unit is = absurd is
-of_count n begun first given (reason.Bytes fault) unit is = absurd is
-of_count n begun first given (reason.History version) unit is = absurd is
-of_count n begun first given reason.Script unit is = absurd is
-of_count n begun first given (reason.UnknownWord quoted) unit is = absurd is
 of_count n begun first given reason.NotRun unit is = (unit, is)
 of_count n begun first given (reason.Number fault) unit is = (unit, is)
+of_count n begun first given other unit is = absurd is
 
 pub of_words : (n : ℕ) (begun : Bool) (line : Text) (r : PauseReason) → ¬ HasPair line 32 35 → IsPlain line → IsWordsReason n begun (words line) r → IsLineReason n begun line r
-of_words n begun line reason.TooLong pair plain is = (pair, plain, is)
-of_words n begun line reason.TooManyUnits pair plain is = (pair, plain, is)
-of_words n begun line reason.Empty pair plain is = (pair, plain, is)
-of_words n begun line reason.NoNewline pair plain is = (pair, plain, is)
 of_words n begun line reason.Comment pair plain is = absurd is.1
 of_words n begun line (reason.Bytes fault) pair plain is = absurd is.1
-of_words n begun line (reason.History version) pair plain is = (pair, plain, is)
-of_words n begun line reason.Script pair plain is = (pair, plain, is)
-of_words n begun line (reason.UnknownWord quoted) pair plain is = (pair, plain, is)
-of_words n begun line reason.NotRun pair plain is = (pair, plain, is)
-of_words n begun line (reason.Number fault) pair plain is = (pair, plain, is)
+of_words n begun line other pair plain is = (pair, plain, is)

@@ -48,11 +48,7 @@ half-drawn : (machine : Machine) (event : Event) → IsKeeping machine.heap → 
 unfolding account_of
 half-drawn machine (event.Session who command) keeps = command_step-drawn machine who command keeps
 half-drawn machine (event.Control control.Quantum) keeps = refl
-half-drawn machine (event.Control control.Start) keeps = refl
-half-drawn machine (event.Control control.Stat) keeps = refl
-half-drawn machine (event.Control control.Dump) keeps = refl
-half-drawn machine (event.Control control.Left) keeps = refl
-half-drawn machine (event.Control (control.Report window)) keeps = refl
+half-drawn machine (event.Control asked) keeps = refl
 
 -- The account of an event
 event-drawn : (machine : Machine) (event : Event) → IsKeeping machine.heap → picture_of (event_step machine event).state.heap.collector ≡ drawn_account (picture_of machine.heap.collector) (account_of machine event)
@@ -66,11 +62,7 @@ event-drawn machine (event.Control control.Quantum) keeps = go (machine.heap.con
     go : (test : Bool) → picture_of (if test then quantum_run machine else says (reply.Spent 0 machine.heap.collector.phase) machine).state.heap.collector ≡ drawn_quantum (picture_of machine.heap.collector) (ran_if test machine.heap)
     go true = quantum_run-drawn machine keeps
     go false = refl
-event-drawn machine (event.Control control.Start) keeps = refl
-event-drawn machine (event.Control control.Stat) keeps = refl
-event-drawn machine (event.Control control.Dump) keeps = refl
-event-drawn machine (event.Control control.Left) keeps = refl
-event-drawn machine (event.Control (control.Report window)) keeps = refl
+event-drawn machine (event.Control asked) keeps = refl
 
 pub events-tell : EventsTellThePicture
 events-tell = record { half = half-drawn; whole = event-drawn }

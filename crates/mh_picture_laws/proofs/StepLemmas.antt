@@ -107,11 +107,9 @@ defrag-drawn collector has_moved is = ap (λ phase. record (picture_of (with_mov
 -- Steps ------------------------------------------------------------------------------------------
 
 step_in-phase : (phase : Phase) (collector : Collector) → collector.phase ≡ phase → (step_in phase collector).phase ≡ phase
-step_in-phase Idle collector is = is
 step_in-phase Roots collector is = refl
-step_in-phase Mark collector is = is
-step_in-phase Sweep collector is = is
 step_in-phase Defrag collector is = refl
+step_in-phase other collector is = is
 
 step_in-drawn : (phase : Phase) (collector : Collector) (has_moved : Bool) → collector.phase ≡ phase → IsSteady collector → picture_of (step_in phase collector) ≡ drawn_all (picture_of collector) (deeds_in phase collector has_moved)
 step_in-drawn Idle collector has_moved is steady = refl

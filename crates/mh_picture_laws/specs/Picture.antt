@@ -93,16 +93,14 @@ drawn picture deed.End = record picture { phase = Idle }
 drawn picture (deed.Root slot edge) = with_edge picture edge
 drawn picture (deed.Mark place name) = record picture { grey = drop 1 picture.grey }
 drawn picture (deed.Reference index edge) = with_edge picture edge
-drawn picture (deed.Pass page) = picture
 drawn picture (deed.Sweep place fate) = with_table picture (swept_slot picture.table place fate)
 drawn picture (deed.FreePage page) = with_table picture (set picture.table page None)
 drawn picture (deed.FlagPage page) = with_table picture (with_flag picture.table page true)
 drawn picture (deed.UnflagPage page) = with_table picture (with_flag picture.table page false)
-drawn picture (deed.Stay place) = picture
 drawn picture (deed.Move place to name class_size) = with_table picture (moved_drawn picture.table place to class_size (block_at picture.table place))
-drawn picture deed.ForwardRoots = picture
 drawn picture (deed.Shade place) = shaded picture place
 drawn picture (deed.Make place name class_size fields tier) = with_table picture (with_taken picture.table class_size place (record { name = name; fields = fields; stamp = picture.cycle; forward = None }))
+drawn picture other = picture
 
 -- The picture after deeds in order
 abbrev pub drawn_all : Picture → List Deed → Picture

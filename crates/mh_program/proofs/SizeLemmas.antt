@@ -15,8 +15,7 @@ of-text Is text old new (Ok Done) is ((body, same, appends), failures) = ((body,
 of-text Is text old new (Ok (Refused refusal)) is none = none
 of-text Is text old new (Err Write) is ((body, same, begins), failures) = ((body, subst Is (sym same) is, begins), failures)
 of-text Is text old new (Err NoMemory) is same = same
-of-text Is text old new (Err Read) is none = none
-of-text Is text old new (Err HistoryFull) is none = none
+of-text Is text old new (Err other) is none = none
 
 module _ {T E : Type 0} (bytes : T → Text) where
   pub written-is : (Is : Text → Type 0) (text : Result T E) (old new : Device) (ended : Result End ScriptFault) → IfOk text (λ made. Is (bytes made)) → IfOk text (λ made. WritesSize (λ body. body ≡ bytes made) old new ended) → OnErr text ((ended ≡ Err NoMemory) × (new ≡ old))

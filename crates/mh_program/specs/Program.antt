@@ -7,6 +7,8 @@ use Rattle.mh_command_line.specs.declared.fault.LineFault.{LineFault}
 use Rattle.mh_orders.specs.declared.order.Order.{Order}
 use Rattle.mh_orders.specs.declared.order.Order.TheVariants.{Run, Steps, Show, Live, Race, Check, CheckSessions, CheckLog, Audit, Migrate, Generate, Version, Chrome, Cycles, Curve, CurveHistory, CurvePauses, Size, SizeRate, SizeTarget, SizeScript}
 use Rattle.mh_orders.specs.declared.order.LiveHeap.{LiveHeap}
+use Rattle.mh_orders.specs.declared.order.StepsOptions.{StepsOptions}
+use Rattle.mh_orders.specs.declared.range.RangeOptions.{RangeOptions}
 use Rattle.mh_orders.specs.declared.order.LiveHeap.TheVariants.{Machine, World}
 use Rattle.mh_orders.specs.declared.order.Form.{Form}
 use Rattle.mh_orders.specs.declared.order.Form.TheVariants.{Replies, History}
@@ -29,15 +31,16 @@ use Rattle.mh_model.specs.declared.config.Rules.{Rules}
 use Rattle.mh_model.specs.declared.config.Rules.TheVariants.{Second}
 use Rattle.mh_log.specs.OfSessions.Texts.{IsSessionsJudging}
 use Rattle.mh_log.specs.Judgements.{IsLogJudging}
+use Rattle.mh_live.specs.OfScript.Promised.{AreReplies, IsPromisedRun}
 use Rattle.mh_live.specs.OfScript.Run.{Device, IsRun, transcript}
-use Rattle.mh_chrome.specs.Runs.{chrome_text}
+use Rattle.mh_chrome.specs.Runs.{DrawsReplies, chrome_text}
 use Rattle.mh_cycles.specs.Lines.{cycles_text}
-use Rattle.mh_show.specs.Page.{page_text}
+use Rattle.mh_show.specs.Page.{ShowsReplies, page_text}
 use Rattle.mh_size_text.specs.Heaps.{IsHeapText}
 use Rattle.mh_size_text.specs.Rates.{IsRateText}
 use Rattle.mh_size_text.specs.Scripts.{IsSizing}
 use Rattle.mh_size_text.specs.Targets.{IsTargetText}
-use Rattle.mh_show.specs.OfTelling.Steps.{told_text}
+use Rattle.mh_show.specs.OfTelling.Steps.{TellsReplies, told_text}
 use Rattle.mh_program.specs.Status.{judgement_status_of, line_status_of, live_status_of, log_status_of, sessions_status_of, status_of, curve_status_of}
 use Rattle.mh_program.specs.Complaints.{ErrorStream, SaysEnd, SaysFault, SaysJudgement, SaysLine, SaysLog, SaysRefusals, SaysRun, SaysSeen, SaysCurve}
 
@@ -94,18 +97,28 @@ pub record Declines (source source' sink sink' : Device) (errors errors' : Error
   pub said : SaysLine errors errors' fault
   pub exit : status ≡ line_status_of fault
 
--- a run of the script of a source in this form under these rules, and how it ended
+-- a run of the script of a source in this form under these rules, and how it ended. Replies are those of an outcome that keeps the promise
 abbrev pub IsRunBy : Form → Rules → (source source' sink sink' : Device) → Result End ScriptFault → Type 0
-IsRunBy Replies rules = IsRun (output_under rules)
+IsRunBy Replies rules = IsPromisedRun AreReplies rules (output_under rules)
 IsRunBy History rules = IsHistoryRun rules
+
+-- a run of the script of a source that is written as its steps, as trace events, or as a page, and how it ended. So are the replies that these show
+abbrev pub IsStepsRun : StepsOptions → (source source' sink sink' : Device) → Result End ScriptFault → Type 0
+IsStepsRun options = IsPromisedRun (TellsReplies options.steps) options.rules (transcript (told_text options.steps) options.rules)
+
+abbrev pub IsChromeRun : RangeOptions → (source source' sink sink' : Device) → Result End ScriptFault → Type 0
+IsChromeRun options = IsPromisedRun (DrawsReplies options) options.rules (transcript (chrome_text options) options.rules)
+
+abbrev pub IsShowRun : RangeOptions → (source source' sink sink' : Device) → Result End ScriptFault → Type 0
+IsShowRun options = IsPromisedRun (ShowsReplies options) options.rules (transcript (page_text options) options.rules)
 
 -- What the program does on an order, or on words that give none
 abbrev pub Serves : Result Order LineFault → (source source' sink sink' : Device) (errors errors' : ErrorStream) → ℕ → Type 0
 Serves (Ok (Run options)) source source' sink sink' errors errors' status = Obeys (IsRunBy options.form options.rules source source' sink sink') (SaysRun SaysEnd) status_of errors errors' status
-Serves (Ok (Steps options)) source source' sink sink' errors errors' status = Obeys (IsRun (transcript (told_text options.steps) options.rules) source source' sink sink') (SaysRun SaysEnd) status_of errors errors' status
-Serves (Ok (Chrome options)) source source' sink sink' errors errors' status = Obeys (IsRun (transcript (chrome_text options) options.rules) source source' sink sink') (SaysRun SaysEnd) status_of errors errors' status
+Serves (Ok (Steps options)) source source' sink sink' errors errors' status = Obeys (IsStepsRun options source source' sink sink') (SaysRun SaysEnd) status_of errors errors' status
+Serves (Ok (Chrome options)) source source' sink sink' errors errors' status = Obeys (IsChromeRun options source source' sink sink') (SaysRun SaysEnd) status_of errors errors' status
 Serves (Ok (Cycles rules)) source source' sink sink' errors errors' status = Obeys (IsRun (transcript (λ _. cycles_text) rules) source source' sink sink') (SaysRun SaysEnd) status_of errors errors' status
-Serves (Ok (Show options)) source source' sink sink' errors errors' status = Obeys (IsRun (transcript (page_text options) options.rules) source source' sink sink') (SaysRun SaysEnd) status_of errors errors' status
+Serves (Ok (Show options)) source source' sink sink' errors errors' status = Obeys (IsShowRun options source source' sink sink') (SaysRun SaysEnd) status_of errors errors' status
 Serves (Ok (Live options)) source source' sink sink' errors errors' status = AnswersLines options.heap source source' sink sink' errors errors' status
 Serves (Ok (Race workers)) source source' sink sink' errors errors' status = Obeys (IsRaceRun source source' sink sink') (SaysRun SaysEnd) status_of errors errors' status
 Serves (Ok (Check config)) source source' sink sink' errors errors' status = Obeys (IsChecking config source source' sink sink') (SaysRun SaysJudgement) judgement_status_of errors errors' status

@@ -10,7 +10,7 @@ ghost use Rattle.std.specs.String.{string_bytes};
 ghost use Rattle.mh_command_line.specs.declared.fault.LineFault.{LineFault};
 ghost use Rattle.mh_orders.specs.declared.order.Order.{Order};
 ghost use Rattle.mh_command_line.specs.Orders.{HasFewWorkers, HasFirstRules, OrdersBy};
-ghost use Rattle.mh_program.specs.Program.{AnswersLines, IsOpened, IsRunBy, Obeys, Serves, WritesScript, WritesVersion};
+ghost use Rattle.mh_program.specs.Program.{AnswersLines, IsChromeRun, IsOpened, IsRunBy, IsShowRun, IsStepsRun, Obeys, Serves, WritesScript, WritesVersion};
 ghost use Rattle.mh_program.specs.Complaints.{SaysEnd, SaysFault, SaysJudgement, SaysLog, SaysRun, SaysSeen};
 ghost use Rattle.mh_program.specs.Status.{judgement_status_of, log_status_of, sessions_status_of, status_of};
 ghost use Rattle.mh_model.specs.declared.config.Rules.TheVariants.{First};
@@ -19,10 +19,7 @@ ghost use Rattle.mh_race_text.specs.Raced.{IsRaceRun};
 ghost use Rattle.mh_log.specs.Judgements.{IsLogJudging};
 ghost use Rattle.mh_log.specs.OfSessions.Texts.{IsSessionsJudging};
 ghost use Rattle.mh_live.specs.OfScript.Run.{IsRun, device, transcript};
-ghost use Rattle.mh_chrome.specs.Runs.{chrome_text};
 ghost use Rattle.mh_cycles.specs.Lines.{cycles_text};
-ghost use Rattle.mh_show.specs.Page.{page_text};
-ghost use Rattle.mh_show.specs.OfTelling.Steps.{told_text};
 
 use crate::errors::Errors;
 use crate::run_curve::{draw_other, draw_script};
@@ -123,7 +120,7 @@ fn stepped<S: Source, W: Sink>(
 ) -> Result<End, ScriptFault>
     requires source_count { S.failures source.old < 2 ^ 62 }
     requires sink_count { W.failures sink.old < 2 ^ 62 }
-    ensures { IsRun (transcript (told_text options.steps) options.rules)
+    ensures { IsStepsRun options
         (device (S.rest source.old) (S.failures source.old)) (device (S.rest source.new) (S.failures source.new))
         (device (W.written sink.old) (W.failures sink.old)) (device (W.written sink.new) (W.failures sink.new)) result }
 {
@@ -140,7 +137,7 @@ fn steps<S: Source, W: Sink, E: Sink>(
 ) -> u8
     requires source_count { S.failures source.old < 2 ^ 62 }
     requires sink_count { W.failures sink.old < 2 ^ 62 }
-    ensures { Obeys (IsRun (transcript (told_text options.steps) options.rules)
+    ensures { Obeys (IsStepsRun options
         (device (S.rest source.old) (S.failures source.old)) (device (S.rest source.new) (S.failures source.new))
         (device (W.written sink.old) (W.failures sink.old)) (device (W.written sink.new) (W.failures sink.new))) (SaysRun SaysEnd) status_of
         errors.old errors.new result }
@@ -160,7 +157,7 @@ fn chrome<S: Source, W: Sink, E: Sink>(
 ) -> u8
     requires source_count { S.failures source.old < 2 ^ 62 }
     requires sink_count { W.failures sink.old < 2 ^ 62 }
-    ensures { Obeys (IsRun (transcript (chrome_text options) options.rules)
+    ensures { Obeys (IsChromeRun options
         (device (S.rest source.old) (S.failures source.old)) (device (S.rest source.new) (S.failures source.new))
         (device (W.written sink.old) (W.failures sink.old)) (device (W.written sink.new) (W.failures sink.new))) (SaysRun SaysEnd) status_of
         errors.old errors.new result }
@@ -200,7 +197,7 @@ fn show<S: Source, W: Sink, E: Sink>(
 ) -> u8
     requires source_count { S.failures source.old < 2 ^ 62 }
     requires sink_count { W.failures sink.old < 2 ^ 62 }
-    ensures { Obeys (IsRun (transcript (page_text options) options.rules)
+    ensures { Obeys (IsShowRun options
         (device (S.rest source.old) (S.failures source.old)) (device (S.rest source.new) (S.failures source.new))
         (device (W.written sink.old) (W.failures sink.old)) (device (W.written sink.new) (W.failures sink.new))) (SaysRun SaysEnd) status_of
         errors.old errors.new result }

@@ -42,9 +42,7 @@ effect-units heap who (command.Shape slot) = go (shape_at heap (own_slot who slo
     go : (shape : Option Shape) → units_of (shape_reply shape) ≡ 0
     go None = refl
     go (Some shape) = refl
-effect-units heap who (command.Post board slot) = refl
-effect-units heap who (command.Take slot board) = refl
-effect-units heap who command.End = refl
+effect-units heap who asked = refl
 
 mutator-units : (heap : HeapState) (who : ℕ) (command : Command) → units_of (mutator_step heap who command).reply ≡ 0
 unfolding mutator_step units_of
@@ -66,11 +64,7 @@ module _ (keeps : QuantumKeepsItsLimit) where
       go : (test : Bool) → units_of (if test then quantum_run machine else says (reply.Spent 0 machine.heap.collector.phase) machine).reply ≤ machine.heap.config.quantum
       go true = quantum-units machine
       go false = omega arith
-  control-units machine control.Start = omega arith
-  control-units machine control.Stat = omega arith
-  control-units machine control.Dump = omega arith
-  control-units machine control.Left = omega arith
-  control-units machine (control.Report window) = omega arith
+  control-units machine asked = omega arith
 
   -- No reply states more units than are configured
   pub event-units : (machine : Machine) (event : Event) → units_of (event_step machine event).reply ≤ machine.heap.config.quantum

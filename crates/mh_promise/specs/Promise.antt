@@ -1,7 +1,6 @@
 -- What a run of a list of events promises of its replies, its heap and its trace. By the laws at the end an outcome that is the machine's keeps this
 -- promise. If a clause speaks of the events before another, it holds at each moment of the run. docs/THEOREM.md has the clauses in plain words.
-use Rattle.std.specs.Prelude.{◌≡◌, ℕ, ◌-◌, ◌*◌, ◌<◌, ◌≤◌, Bool, true, false, Some, None, List, [], ◌∷◌, ◌++◌, length}
-use Rattle.std.specs.List.{AllByRecursion}
+use Rattle.std.specs.Prelude.{◌≡◌, ℕ, ◌-◌, ◌<◌, ◌≤◌, true, false, Some, None, List, [], ◌∷◌, ◌++◌, length}
 use Rattle.mh_model.specs.declared.command.Command.{Command}
 use Rattle.mh_model.specs.declared.command.Command.TheVariants as command
 use Rattle.mh_model.specs.declared.command.Control.TheVariants as control
@@ -9,7 +8,6 @@ use Rattle.mh_model.specs.declared.command.Event.{Event}
 use Rattle.mh_model.specs.declared.command.Event.TheVariants as event
 use Rattle.mh_model.specs.declared.config.Config.{Config}
 use Rattle.mh_model.specs.declared.cycle.Phase.{Phase}
-use Rattle.mh_model.specs.declared.needs.Needs.{Needs}
 use Rattle.mh_model.specs.declared.reply.Refusal.{Refusal}
 use Rattle.mh_model.specs.declared.reply.Refusal.TheVariants.{HeapFull}
 use Rattle.mh_model.specs.declared.reply.Reply.{Reply}
@@ -18,19 +16,12 @@ use Rattle.mh_model.specs.Bound.{most_quanta}
 use Rattle.mh_model.specs.World.{IsNew, first_world, never_full, refusal, world_step}
 use Rattle.mh_model.specs.Collector.{is_idle, quantum}
 use Rattle.mh_model.specs.Mutator.{heap_sight, new_group}
-use Rattle.mh_model.specs.Machine.{first_machine, half_step, machine_after}
+use Rattle.mh_model.specs.Machine.{first_machine, half_step, machine_after, machine_replies}
 use Rattle.mh_model.specs.Invariant.{IsFinished, IsLinked}
 use Rattle.mh_model.specs.Snapshot.{Moment, half_moment, has_quantum, is_heap_full, snapshot_at, world_beside}
 use Rattle.mh_model.specs.Trace.{least_mutator, floor}
-use Rattle.mh_model.specs.Intervals.{CyclesTakeAtMost, HasRoomFor, LeaveFlagged, AnswerAsTheWorld, cycle_ends}
-use Rattle.mh_model.specs.Needs.{HasEnoughFor}
-use Rattle.mh_model.specs.Openings.{free_of}
 use Rattle.mh_run_laws.specs.BesideTheWorld.{IsFaithful, IsInCycle}
 use Rattle.mh_laws.specs.Bounds.{HasEnded, HasRunQuanta}
-use Rattle.mh_sizing_laws.specs.Filled.{FillNoMore}
-use Rattle.mh_sizing_laws.specs.Made.{MakeNoMore, MakeOfKinds, footprint}
-use Rattle.mh_sizing_laws.specs.SharpNeeds.{HasSharpEnoughFor}
-use Rattle.mh_sizing_laws.specs.Started.{FillNoMoreAfter, HasEnoughBeside, HasSharpEnoughBeside, IsStartupWithin, MakeNoMoreAfter}
 use Rattle.mh_run_laws.specs.Forwarders.{AreOfItsCycle}
 use Rattle.mh_run_laws.specs.Replays.{machine_at, moment_at}
 use Rattle.mh_promise.specs.Runs.{Outcome, outcome_of, IsAnswered, IsTheMachines, AreAnsweredSoFar}
@@ -133,39 +124,9 @@ pub record LeftCountsToTheEnd (config : Config) (events : List Event) (replies :
   pub running : (before : List Event) (given : Reply) → IsAnswered events replies before (event.Control control.Left) given → is_idle (machine_at config before).heap.collector.phase ≡ false → CountsToTheEnd config events before given
   pub idle : (before : List Event) (given : Reply) → IsAnswered events replies before (event.Control control.Left) given → is_idle (machine_at config before).heap.collector.phase ≡ true → given ≡ reply.Left 0
 
--- Room -------------------------------------------------------------------------------------------
-
--- No reply is a full heap, and no new object goes into a flagged page. So the replies are those of a heap that never collects or moves, which is
--- given every command
-pub record NeverAnswersFull (config : Config) (events : List Event) (replies : List Reply) : Type 0 where
-  pub none : AllByRecursion (λ answer. is_heap_full answer ≡ false) replies
-  pub worlds : AnswerAsTheWorld (first_world config) events replies
-  pub flagged : LeaveFlagged (first_machine config) events
-
--- a run whose cycles take no more than so many quanta, each of which leaves pages free for as many intervals, and which is never full
-pub record HasRoom (config : Config) (events : List Event) (replies : List Reply) (quanta opened : ℕ) : Type 0 where
-  pub cycles : CyclesTakeAtMost quanta config events
-  pub left : AllByRecursion (λ machine. quanta * opened ≤ free_of machine) (cycle_ends (first_machine config) events)
-  pub never_full : NeverAnswersFull config events replies
-
--- A run is never full whose trigger and pages are enough: for what its cycles take and leave, or for what its sessions make and hold, by the ever-growing
--- world alone. What that refuses counts nothing, nor does what is held between two quanta alone. For these needs each new part may keep a page, or small
--- parts share pages. If its first events make what stays, and ask for no cycle, the needs may be those of what follows, beside the pages that are
--- anchored. Nor is it full if its pages are as many as its classes take at most, by their parts. No cycle takes more quanta than its bound
-pub record RoomIsEnough (config : Config) (events : List Event) (replies : List Reply) : Type 0 where
-  pub bound : CyclesTakeAtMost (most_quanta config) config events
-  pub room : (quanta opened : ℕ) → 1 ≤ quanta → CyclesTakeAtMost quanta config events → HasRoomFor config events quanta opened → NeverAnswersFull config events replies
-  pub needs : (needs : Needs) (quanta : ℕ) → MakeNoMore needs config events → HasEnoughFor needs config quanta → HasRoom config events replies quanta needs.opened
-  pub shared : (needs : Needs) (filled kinds quanta : ℕ) → MakeNoMore needs config events → FillNoMore filled config events → MakeOfKinds kinds config events → HasSharpEnoughFor needs filled kinds config quanta → HasRoom config events replies quanta needs.opened
-  pub started : (needs : Needs) (anchored startup_pages quanta : ℕ) (start rest : List Event) (stays : ℕ → Bool) → events ≡ start ++ rest → MakeNoMoreAfter needs config start rest stays → IsStartupWithin anchored startup_pages config start stays
-      → HasEnoughBeside needs anchored startup_pages config quanta → HasRoom config events replies quanta needs.opened
-  pub started_shared : (needs : Needs) (filled kinds anchored startup_pages quanta : ℕ) (start rest : List Event) (stays : ℕ → Bool) → events ≡ start ++ rest → MakeNoMoreAfter needs config start rest stays → FillNoMoreAfter filled config start rest stays → MakeOfKinds kinds config events
-      → IsStartupWithin anchored startup_pages config start stays → HasSharpEnoughBeside needs filled kinds anchored startup_pages config quanta → HasRoom config events replies quanta needs.opened
-  pub fits : footprint config events ≤ config.pages → NeverAnswersFull config events replies
-
 -- The promise ------------------------------------------------------------------------------------
 
--- What a run promises of its outcome, in twelve clauses, all of them above. That of the mutator's floor is promised if the scheduler runs quanta
+-- What a run promises of its outcome, in eleven clauses, all of them above. That of the mutator's floor is promised if the scheduler runs quanta
 pub record IsPromised (config : Config) (events : List Event) (outcome : Outcome) : Type 0 where
   -- each event is answered once
   pub answered : AreAnswered events outcome.replies
@@ -187,10 +148,14 @@ pub record IsPromised (config : Config) (events : List Event) (outcome : Outcome
   pub ends : CyclesEnd config events
   -- and once as many quanta as are reported to be left have been run, it has ended
   pub left : LeftCountsToTheEnd config events outcome.replies
-  -- with room for its cycles it is never full
-  pub room : RoomIsEnough config events outcome.replies
   -- if the scheduler runs quanta, the mutator has its share of the units
   pub share : 0 < config.every → MutatorHasItsFloor config outcome
+
+-- These are the replies of an outcome that keeps the promise of these events
+pub record ArePromised (config : Config) (events : List Event) (replies : List Reply) : Type 0 where
+  pub outcome : Outcome
+  pub promise : IsPromised config events outcome
+  pub replies_are : outcome.replies ≡ replies
 
 -- What a run that stopped early promises: its replies are the machine's to the first of its events, and all clauses hold of these
 pub record IsPromisedSoFar (config : Config) (events : List Event) (replies : List Reply) : Type 0 where
@@ -200,6 +165,10 @@ pub record IsPromisedSoFar (config : Config) (events : List Event) (replies : Li
 -- An outcome that is the machine's, in replies, heap, free pages and trace, keeps the promise
 abbrev pub RunsKeepTheirPromise : Type 0
 RunsKeepTheirPromise = (config : Config) (events : List Event) (outcome : Outcome) → IsTheMachines config events outcome → IsPromised config events outcome
+
+-- Replies that are the machine's are those of an outcome that keeps the promise
+abbrev pub RepliesArePromised : Type 0
+RepliesArePromised = (config : Config) (events : List Event) (replies : List Reply) → replies ≡ machine_replies (first_machine config) events → ArePromised config events replies
 
 -- Replies that are the machine's to the first events of a run that stopped keep the promise of these events
 abbrev pub StoppedRunsKeepTheirPromise : Type 0

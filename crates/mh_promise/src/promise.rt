@@ -1,5 +1,5 @@
 //! Laws of what a run promises.
-ghost use Rattle.mh_promise.specs.Promise.{RunsKeepTheirPromise, StoppedRunsKeepTheirPromise};
+ghost use Rattle.mh_promise.specs.Promise.{RepliesArePromised, RunsKeepTheirPromise, StoppedRunsKeepTheirPromise};
 
 use mh_laws::bounds::{cycle_ends_within_its_bound, quanta_left_end_the_cycle};
 use mh_laws::commands::{full_heap_has_no_place, no_place_is_a_full_heap, refusal_leaves_the_heap};
@@ -11,12 +11,6 @@ use mh_run_laws::beside_the_world::{
 use mh_run_laws::forwarders::finished_cycles_made_their_forwarders;
 use mh_run_laws::utilisation::{mutator_has_its_share, quanta_stay_within_their_bound};
 use mh_run_laws::worlds::{moment_has_the_machine, moment_has_the_world};
-use mh_sizing_laws::needs::{
-    cycles_take_the_bound, enough_for_needs_suffices, pages_for_footprint_suffice,
-};
-use mh_sizing_laws::sharp_needs::sharp_enough_for_needs_suffices;
-use mh_sizing_laws::started::{enough_after_startup_suffices, sharp_enough_after_startup_suffices};
-use mh_sizing_laws::triggers::{never_full_is_the_world, room_suffices};
 
 /// An outcome that is the machine's keeps the promise.
 pub fn runs_keep_their_promise()
@@ -37,14 +31,13 @@ pub fn runs_keep_their_promise()
     quanta_stay_within_their_bound();
     moment_has_the_machine();
     moment_has_the_world();
-    cycles_take_the_bound();
-    room_suffices();
-    enough_for_needs_suffices();
-    sharp_enough_for_needs_suffices();
-    enough_after_startup_suffices();
-    sharp_enough_after_startup_suffices();
-    pages_for_footprint_suffice();
-    never_full_is_the_world();
+}
+
+/// Replies that are the machine's are those of an outcome that keeps the promise.
+pub fn replies_are_promised()
+    ensures { RepliesArePromised }
+{
+    runs_keep_their_promise();
 }
 
 /// A run that stopped early keeps the promise of the events that it did.

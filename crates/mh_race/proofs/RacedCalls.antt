@@ -10,7 +10,8 @@ use Rattle.mh_model.specs.declared.command.Event.{Event}
 use Rattle.mh_model.specs.declared.history.Entry.{Entry}
 use Rattle.mh_model.specs.History.{owner_of, owned_by, events_of}
 use Rattle.mh_service.specs.OfState.Stop.{Stop}
-use Rattle.mh_race.specs.Racing.{AreRun, AreStopped, BeginsItsCalls, HasMadeItsCalls, MakesTheCalls, NoneStopped}
+use Rattle.mh_service.specs.Services.{ServiceView}
+use Rattle.mh_race.specs.Racing.{AreRun, AreStopped, BeginsItsCalls, HasMadeItsCalls, MakesTheCalls, NoneStopped, StoppedAtARefusal, WasRefused}
 
 -- an element that a test finds
 record Found {X : Type 0} (P : X → Type 0) (p : X → Bool) : Type 0 where
@@ -52,20 +53,20 @@ abbrev HasCalls : List Event → List Event → Option Stop → ℕ → Type 0
 HasCalls events done None seat = owned_by owner_of seat done ≡ owned_by owner_of seat events
 HasCalls events done (Some stop) seat = (refused : Event) × (later : List Event) × (owned_by owner_of seat done ++ refused ∷ later ≡ owned_by owner_of seat events)
 
-module _ (one_owner : (event : Event) → owner_of event ≤ 8) (events : List Event) (stops : List (Option Stop)) (seats : List (LockSeatView Entry)) (history : List Entry)
-    (run : AreRun events stops seats) (logs : All (λ seat. seat.log ≡ owned_by (λ entry. owner_of entry.event) seat.number history) seats)
+module _ (one_owner : (event : Event) → owner_of event ≤ 8) (service : ServiceView) (events : List Event) (stops : List (Option Stop)) (seats : List (LockSeatView Entry)) (history : List Entry)
+    (run : AreRun (WasRefused service) events stops seats) (logs : All (λ seat. seat.log ≡ owned_by (λ entry. owner_of entry.event) seat.number history) seats)
     (numbers : (number : ℕ) → number < 9 → count_by (λ seat. seat.number == number) seats ≡ 1) where
   -- the events in a seat's log are its part of the history
   log-events : (seat : LockSeatView Entry) → seat.log ≡ owned_by (λ entry. owner_of entry.event) seat.number history → events_of seat.log ≡ owned_by owner_of seat.number (events_of history)
   log-events seat log = ap events_of log ∙ owned-events seat.number history
 
-  of-seat : (refused : Option Stop) (number : ℕ) (seat : LockSeatView Entry) → HasMadeItsCalls events refused seat → seat.log ≡ owned_by (λ entry. owner_of entry.event) seat.number history → seat.number ≡ number → HasCalls events (events_of history) refused number
+  of-seat : (refused : Option Stop) (number : ℕ) (seat : LockSeatView Entry) → HasMadeItsCalls (WasRefused service) events refused seat → seat.log ≡ owned_by (λ entry. owner_of entry.event) seat.number history → seat.number ≡ number → HasCalls events (events_of history) refused number
   of-seat None number seat made log is = subst (HasCalls events (events_of history) None) is (sym (log-events seat log) ∙ made)
   of-seat (Some stop) number seat made log is = subst (HasCalls events (events_of history) (Some stop)) is (made.0, made.1, ap (λ es. es ++ made.0 ∷ made.1) (sym (log-events seat log)) ∙ made.2)
 
   -- a seat of this number has run all its events, and its log is its part of the history
   abbrev Made : ℕ → LockSeatView Entry → Type 0
-  Made number seat = (seat.number ≡ number → HasMadeItsCalls events None seat) × (seat.log ≡ owned_by (λ entry. owner_of entry.event) seat.number history)
+  Made number seat = (seat.number ≡ number → HasMadeItsCalls (WasRefused service) events None seat) × (seat.log ≡ owned_by (λ entry. owner_of entry.event) seat.number history)
 
   whole-below : (number : ℕ) → get_or stops number None ≡ None → number < 9 → HasCalls events (events_of history) None number
   whole-below number none below =
@@ -73,17 +74,24 @@ module _ (one_owner : (event : Event) → owner_of event ≤ 8) (events : List E
       let same = eqb-true found.x.number number found.passes in
       of-seat None number found.x (found.holds.0 same) found.holds.1 same
 
-  short-below : (number : ℕ) (stop : Stop) → get_or stops number None ≡ Some stop → number < 9 → HasCalls events (events_of history) (Some stop) number
-  short-below number stop is below =
-      let found = run.some number stop below is in
-      of-seat (Some stop) number found.0 found.3 (All-contains (λ seat. seat.log ≡ owned_by (λ entry. owner_of entry.event) seat.number history) seats found.0 logs found.1) found.2
+  -- a seat that was stopped has a number
+  pub stopped-at : (number : ℕ) (stop : Stop) → get_or stops number None ≡ Some stop → StoppedAtARefusal service events history number stop
+  stopped-at number stop is = ⊎_elim (λ within. short-below (omega (arith, within.1))) (λ past. absurd (none-some stop (sym (run.above number past.1) ∙ is))) (leb_tells number 8)
+    where
+      short-below : number < 9 → StoppedAtARefusal service events history number stop
+      short-below below =
+          let found = run.some number stop below is in
+          let log = All-contains (λ seat. seat.log ≡ owned_by (λ entry. owner_of entry.event) seat.number history) seats found.0 logs found.1 in
+          record { seat = found.0; number_is = found.2; log_is = subst (λ n. found.0.log ≡ owned_by (λ entry. owner_of entry.event) n history) found.2 log; calls = found.3 }
 
   whole-above : (number : ℕ) → 8 < number → HasCalls events (events_of history) None number
   whole-above number above = owned-none owner_of 8 number one_owner above (events_of history) ∙ sym (owned-none owner_of 8 number one_owner above events)
 
   calls-at : (number : ℕ) (refused : Option Stop) → get_or stops number None ≡ refused → HasCalls events (events_of history) refused number
   calls-at number None is = ⊎_elim (λ within. whole-below number is (omega (arith, within.1))) (λ past. whole-above number past.1) (leb_tells number 8)
-  calls-at number (Some stop) is = ⊎_elim (λ within. short-below number stop is (omega (arith, within.1))) (λ past. absurd (none-some stop (sym (run.above number past.1) ∙ is))) (leb_tells number 8)
+  calls-at number (Some stop) is =
+      let at = stopped-at number stop is in
+      of-seat (Some stop) number at.seat at.calls (subst (λ n. at.seat.log ≡ owned_by (λ entry. owner_of entry.event) n history) (sym at.number_is) at.log_is) at.number_is
 
   begun : (number : ℕ) (refused : Option Stop) → HasCalls events (events_of history) refused number → (left : List Event) × (owned_by owner_of number (events_of history) ++ left ≡ owned_by owner_of number events)
   begun number None calls = ([], append-nil (owned_by owner_of number (events_of history)) ∙ calls)

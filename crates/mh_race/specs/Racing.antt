@@ -1,12 +1,14 @@
 -- What each seat of a race has done, and what a race leaves of the events of its script.
-use Rattle.std.specs.Prelude.{◌≡◌, ◌↔◌, ◌⊎◌, ℕ, ◌<◌, List, [], ◌∷◌, ◌++◌, Option, Some, None, All, Contains, get_or}
+use Rattle.std.specs.Prelude.{◌≡◌, ◌↔◌, ◌⊎◌, ℕ, ◌<◌, List, [], ◌∷◌, ◌++◌, Option, Some, None, Err, All, Contains, get_or}
 use Rattle.mh_model.specs.declared.command.Event.{Event}
+use Rattle.mh_model.specs.declared.config.Config.{Config}
 use Rattle.mh_model.specs.History.{owner_of, owned_by, events_of}
 use Rattle.mh_service.specs.OfLock.Seats.{LockSeatView}
 use Rattle.mh_model.specs.declared.history.Entry.{Entry}
 use Rattle.mh_race.specs.declared.racer.Racer.{Racer}
-use Rattle.mh_service.specs.Services.{ServiceView, IsOfService}
+use Rattle.mh_service.specs.Services.{ServiceView, IsOfService, IsServed}
 use Rattle.mh_service.specs.OfState.Stop.{Stop}
+use Rattle.mh_service.specs.OfState.Stop.TheVariants.{NoMemory}
 
 -- a seat of this service, before its first call
 abbrev pub IsNewSeat : ServiceView → LockSeatView Entry → Type 0
@@ -16,14 +18,19 @@ IsNewSeat service seat = IsOfService service seat × (seat.log ≡ [])
 abbrev pub IsFresh : ServiceView → Racer → Type 0
 IsFresh service racer = IsNewSeat service racer.seat × (racer.stop ≡ None)
 
--- The seat has made its calls of some events in their order: all of them, or if one was refused those before it
-abbrev pub HasMadeItsCalls : List Event → Option Stop → LockSeatView Entry → Type 0
-HasMadeItsCalls events None seat = events_of seat.log ≡ owned_by owner_of seat.number events
-HasMadeItsCalls events (Some stop) seat = (refused : Event) × (later : List Event) × (events_of seat.log ++ refused ∷ later ≡ owned_by owner_of seat.number events)
+-- A service refused a seat's call of this event for this reason, and left the seat as it was. The state that the call found refused it, for a full
+-- history just if it had 1,000,000 entries; or the seat's log got no memory
+abbrev pub WasRefused : ServiceView → LockSeatView Entry → Event → Stop → Type 0
+WasRefused service seat event stop = IsServed service seat seat event (Err stop) ⊎ (stop ≡ NoMemory)
+
+-- The seat has made its calls of some events in their order: all of them, or if it stopped for a reason those before one that was refused for it
+abbrev pub HasMadeItsCalls : (LockSeatView Entry → Event → Stop → Type 0) → List Event → Option Stop → LockSeatView Entry → Type 0
+HasMadeItsCalls Refused events None seat = events_of seat.log ≡ owned_by owner_of seat.number events
+HasMadeItsCalls Refused events (Some stop) seat = (event : Event) × (later : List Event) × (events_of seat.log ++ event ∷ later ≡ owned_by owner_of seat.number events) × Refused seat event stop
 
 -- a racer whose seat is one of this service, and has run so
-abbrev pub HasRunIn : ServiceView → List Event → Racer → Type 0
-HasRunIn service events racer = IsOfService service racer.seat × HasMadeItsCalls events racer.stop racer.seat
+abbrev pub HasRunIn : ServiceView → (LockSeatView Entry → Event → Stop → Type 0) → List Event → Racer → Type 0
+HasRunIn service Refused events racer = IsOfService service racer.seat × HasMadeItsCalls Refused events racer.stop racer.seat
 
 -- by the numbers of seats it is noted which racers were refused a call: none at a number at which nothing is noted, and one at a number at which something new is
 pub record AreNoted (racers : List Racer) (old new : List (Option Stop)) : Type 0 where
@@ -33,9 +40,9 @@ pub record AreNoted (racers : List Racer) (old new : List (Option Stop)) : Type 
   pub above : (number : ℕ) → 8 < number → get_or new number None ≡ get_or old number None
 
 -- the same of seats and what they have run
-pub record AreRun (events : List Event) (stops : List (Option Stop)) (seats : List (LockSeatView Entry)) : Type 0 where
-  pub none : (number : ℕ) → number < 9 → get_or stops number None ≡ None → All (λ seat. seat.number ≡ number → HasMadeItsCalls events None seat) seats
-  pub some : (number : ℕ) (stop : Stop) → number < 9 → get_or stops number None ≡ Some stop → (seat : LockSeatView Entry) × Contains seats seat × (seat.number ≡ number) × HasMadeItsCalls events (Some stop) seat
+pub record AreRun (Refused : LockSeatView Entry → Event → Stop → Type 0) (events : List Event) (stops : List (Option Stop)) (seats : List (LockSeatView Entry)) : Type 0 where
+  pub none : (number : ℕ) → number < 9 → get_or stops number None ≡ None → All (λ seat. seat.number ≡ number → HasMadeItsCalls Refused events None seat) seats
+  pub some : (number : ℕ) (stop : Stop) → number < 9 → get_or stops number None ≡ Some stop → (seat : LockSeatView Entry) × Contains seats seat × (seat.number ≡ number) × HasMadeItsCalls Refused events (Some stop) seat
   pub above : (number : ℕ) → 8 < number → get_or stops number None ≡ None
 
 -- by these stops some seat was refused a call for this reason, or none was refused any
@@ -56,3 +63,14 @@ MakesTheCalls events done = (seat : ℕ) → owned_by owner_of seat done ≡ own
 -- or the first of them, and no others
 abbrev pub BeginsItsCalls : List Event → List Event → Type 0
 BeginsItsCalls events done = (seat : ℕ) → (left : List Event) × (owned_by owner_of seat done ++ left ≡ owned_by owner_of seat events)
+
+-- The seat of a number made its calls of some events up to the first that isn't in the history, which its service refused for this reason
+pub record StoppedAtARefusal (service : ServiceView) (events : List Event) (history : List Entry) (number : ℕ) (stop : Stop) : Type 0 where
+  pub seat : LockSeatView Entry
+  pub number_is : seat.number ≡ number
+  pub log_is : seat.log ≡ owned_by (λ entry. owner_of entry.event) number history
+  pub calls : HasMadeItsCalls (WasRefused service) events (Some stop) seat
+
+-- So did each seat that was stopped, with one service of this configuration, for the reason that is given for it
+abbrev pub HaveReasons : Config → List Event → List Entry → List (Option Stop) → Type 0
+HaveReasons config events history stops = (service : ServiceView) × (service.config ≡ config) × ((seat : ℕ) (stop : Stop) → get_or stops seat None ≡ Some stop → StoppedAtARefusal service events history seat stop)

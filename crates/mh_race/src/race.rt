@@ -4,8 +4,9 @@
 //! events, in their order and no others. If one of its calls was refused, it has those before it.
 //!
 //! The calls of each seat alone say what a race leaves, so nothing is said of the order between seats. For each seat by
-//! itself a refusal is reported exactly if not all of its calls are in the history (`each`). A log that gets no memory
-//! may refuse any call, so no contract says when a seat is refused.
+//! itself a refusal is reported exactly if not all of its calls are in the history (`each`). The call that comes next was
+//! then refused, for the reason that is reported (`reasons`): a full history only if that call found 1,000,000 entries.
+//! A log that gets no memory may refuse any call, so no contract says when a seat is refused.
 //!
 //! `Raced::stop` reports the gravest refusal. That is refused memory, with 1,000,000 entries only if some seat was
 //! refused it. A full history is reported only with as many. A race that met one, and was never refused memory, looks
@@ -15,11 +16,11 @@ ghost use Rattle.std.specs.Prelude.{◌≡◌, ◌≢◌, ◌<◌, ◌≤◌, �
 ghost use Rattle.std.specs.Vec.{vec_capacity};
 ghost use Rattle.mh_model.specs.History.{IsLegal, events_of};
 ghost use Rattle.mh_model.specs.Limits.{most_entries};
-ghost use Rattle.mh_race.specs.Racing.{IsNewSeat, IsFresh, HasRunIn, AreNoted, AreRun, AreStopped, BeginsItsCalls, SomeSeatStopped, NoneStopped};
+ghost use Rattle.mh_race.specs.Racing.{IsNewSeat, IsFresh, HasRunIn, AreNoted, AreRun, AreStopped, BeginsItsCalls, HaveReasons, SomeSeatStopped, NoneStopped};
 ghost use Rattle.mh_service.specs.Services.{ServiceView, IsOfService};
 ghost use Rattle.mh_service.specs.OfState.Stop.{Stop};
 
-use crate::racer::Racer;
+use crate::racer::{Called, Racer};
 use mh_model::command::Event;
 use mh_model::config::Config;
 use mh_model::history::Entry;
@@ -89,21 +90,21 @@ fn racers_of(alloc: Global, seats: Vec<Seat>, events: &[Event]) -> Result<Racers
 
 /// Each racer in a thread of its own, or all on the calling thread, if there is one thread. The calls of a racer whose
 /// thread can't be started are made on another.
-fn run_all<R: Threads + Wait + Sync, G: CrewGate + Sync>(
+fn run_all<R: Threads + Wait + Sync, C: Called + Sync>(
     rt: &R,
-    service: &Service<'_, G>,
+    service: &C,
     racers: &mut Vec<Racer>,
     events: &[Event],
     threads: usize,
 )
     requires threads { 0 < threads }
-    requires fresh { All (IsFresh service.now) racers.old.items }
-    ensures run { All (HasRunIn service.now events.now) racers.new.items }
+    requires fresh { All (IsFresh (C.service service.now)) racers.old.items }
+    ensures run { All (HasRunIn (C.service service.now) (C.refuses service.now) events.now) racers.new.items }
     ensures count { vec_len racers.new ≡ vec_len racers.old }
 {
     let one = |_index: usize, racer: &mut Racer|
-        requires { IsFresh service.now racer.now }
-        ensures { HasRunIn service.entry.now events.entry.now racer.exit.now }
+        requires { IsFresh (C.service service.now) racer.now }
+        ensures { HasRunIn (C.service service.entry.now) (C.refuses service.entry.now) events.entry.now racer.exit.now }
     { racer.run(rt, service, events) };
     thread::for_each_mut(rt, racers.as_mut_slice(), threads, &one);
 }
@@ -135,16 +136,16 @@ fn take_seats(racers: Vec<Racer>, seats: &mut Vec<Seat>, stops: &mut Stops)
 }
 
 /// Makes the calls of all seats, and gives them back, with which of them were refused a call.
-fn run_seats<R: Threads + Wait + Sync, G: CrewGate + Sync>(
+fn run_seats<R: Threads + Wait + Sync, C: Called + Sync>(
     rt: &R,
     alloc: Global,
-    service: &Service<'_, G>,
+    service: &C,
     seats: Vec<Seat>,
     events: &[Event],
 ) -> Result<(Vec<Seat>, Stops), NoMemory>
-    requires { All (IsNewSeat service.now) seats.items }
-    ensures own { IfOk result (λ run. All (IsOfService service.now) run.0.items) }
-    ensures run { IfOk result (λ run. AreRun events.now run.1 run.0.items) }
+    requires { All (IsNewSeat (C.service service.now)) seats.items }
+    ensures own { IfOk result (λ run. All (IsOfService (C.service service.now)) run.0.items) }
+    ensures run { IfOk result (λ run. AreRun (C.refuses service.now) events.now run.1 run.0.items) }
     ensures count { IfOk result (λ run. vec_len run.0 ≡ vec_len seats) }
 {
     let mut back = Vec::with_capacity(alloc, seats.len())?;
@@ -209,6 +210,7 @@ pub fn race<R: Threads + Wait + Sync, G: CrewGate + Sync>(
     ensures legal { IfOk result (λ raced. IsLegal config raced.history.items) }
     ensures begun { IfOk result (λ raced. BeginsItsCalls events.now (events_of raced.history.items)) }
     ensures each { IfOk result (λ raced. AreStopped events.now (events_of raced.history.items) raced.stops) }
+    ensures reasons { IfOk result (λ raced. HaveReasons config events.now raced.history.items raced.stops) }
 {
     events_have_one_owner();
     let (service, seats) = Service::open(alloc, config, workers, gate)?;

@@ -1,1 +1,2 @@
 pub mod RacedLemmas
+pub mod PromisedLemmas

@@ -5,6 +5,8 @@
 //! race whose history is full has written a legal history of 1,000,000 calls. Whatever else ends it, what was written
 //! is a prefix of such a text. A refused script has its reason, and memory is refused, only as for a run.
 //!
+//! The replies in each such history are those of an outcome that keeps the promise of `mh_promise` (`promise`).
+//!
 //! The calls of each seat alone say what a race leaves, so nothing is said of the order between seats. A race that is
 //! cut short leaves a prefix of what some race would write whose seats made the first of their calls. The record is
 //! written by a replay, since the stored history has no units. The history is legal, so the replay gives the replies
@@ -12,12 +14,13 @@
 ghost use Rattle.std.specs.Prelude.{◌≡◌, ◌≢◌, ◌<◌, ◌≤◌, ◌^◌, IfOk, OnOk, OnErr, IsErrOf};
 ghost use Rattle.std.specs.Io.KnownBytes.{Keeps};
 ghost use Rattle.mh_model.specs.Races.{IsRaced, IsRacedFull, IsRaceBegun};
-ghost use Rattle.mh_race_text.specs.Raced.{BeginsToRace, RaceEndsAs, Races};
+ghost use Rattle.mh_race_text.specs.Raced.{BeginsToRace, KeepsRacePromise, RaceEndsAs, Races};
 ghost use Rattle.mh_judging.specs.OfScript.Run.{HasReason, TakesToRun};
 ghost use Rattle.mh_judging.specs.OfScript.Texts.{Blames, BlamesSink, LeavesSource, WantsMemory, Writes};
 
 use mh_judging::mh_script::end::{End, LineRefusal};
 use mh_judging::mh_script::fault::ScriptFault;
+use mh_judging::mh_script::mh_promise::promise::replies_are_promised;
 use mh_judging::mh_script::texts::{read_whole, write_verdict};
 use mh_judging::record::write_record;
 use mh_model::history::Verdict;
@@ -70,6 +73,7 @@ pub fn race_script<R: Threads + Wait + Sync, S: Source, W: Sink, G: CrewGate + S
     requires workers { (0 < workers) × (workers ≤ 64) }
     requires source_count { S.failures source.old < 2 ^ 62 }
     requires sink_count { W.failures sink.old < 2 ^ 62 }
+    ensures promise { KeepsRacePromise (S.rest source.old) (W.written sink.old) (W.written sink.new) result }
     ensures ends { IfOk result (RaceEndsAs (S.rest source.old) (W.written sink.old) (W.written sink.new)) }
     ensures reason { IfOk result (HasReason (S.rest source.old)) }
     ensures begun { OnErr result (BeginsToRace (S.rest source.old) (W.written sink.old) (W.written sink.new)) }
@@ -79,6 +83,7 @@ pub fn race_script<R: Threads + Wait + Sync, S: Source, W: Sink, G: CrewGate + S
     ensures taken { LeavesSource SCRIPT_BYTES (S.rest source.old) (S.rest source.new) result }
     ensures blames { Blames (S.failures source.old) (S.failures source.new) (W.failures sink.old) (W.failures sink.new) result }
 {
+    replies_are_promised();
     let text = read_whole(alloc, source, SCRIPT_BYTES)?;
     let bytes = text.as_slice();
     match parse(alloc, bytes) {

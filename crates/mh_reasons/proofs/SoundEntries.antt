@@ -10,9 +10,9 @@ use Rattle.mh_model.specs.declared.command.Event.TheVariants as event
 use Rattle.mh_model.specs.declared.reply.Reply.{Reply}
 use Rattle.mh_model.specs.declared.reply.Reply.TheVariants as reply
 use Rattle.mh_model.specs.declared.reply.Refusal.{Refusal}
-use Rattle.mh_model.specs.declared.reply.Refusal.TheVariants.{BadSlot, Null, NoField, TooLarge, HeapFull, Ended, TooManySessions}
+use Rattle.mh_model.specs.declared.reply.Refusal.TheVariants.{BadSlot}
 use Rattle.mh_model.specs.declared.cycle.Phase.{Phase}
-use Rattle.mh_model.specs.declared.cycle.Phase.TheVariants.{Idle, Roots, Mark, Sweep, Defrag}
+use Rattle.mh_model.specs.declared.cycle.Phase.TheVariants.{Idle}
 use Rattle.mh_model.specs.declared.dump.DumpItem.{DumpItem}
 use Rattle.mh_model.specs.declared.dump.DumpItem.TheVariants as item
 use Rattle.mh_model.specs.declared.history.Entry.{Entry}
@@ -116,10 +116,7 @@ flag_sound false = refl
 
 phase_sound : (phase : Phase) → is_sound is_printable (phase_word phase) ≡ true
 phase_sound Idle = refl
-phase_sound Roots = refl
-phase_sound Mark = refl
-phase_sound Sweep = refl
-phase_sound Defrag = refl
+phase_sound other = refl
 
 optional_sound : (n : Option ℕ) → are_u64 (option_to_list n) ≡ true → is_sound is_printable (optional_word n) ≡ true
 optional_sound None h = refl
@@ -127,12 +124,7 @@ optional_sound (Some n) h = sound_decimal n (ltb-true n u64 (and_parts _ _ h).0)
 
 refusal_sound : (refusal : Refusal) → are_sound is_printable (refusal_words refusal) ≡ true
 refusal_sound BadSlot = refl
-refusal_sound Null = refl
-refusal_sound NoField = refl
-refusal_sound TooLarge = refl
-refusal_sound HeapFull = refl
-refusal_sound Ended = refl
-refusal_sound TooManySessions = refl
+refusal_sound other = refl
 
 item_sound : (i : DumpItem) → are_u64 (item_numbers i) ≡ true → are_sound is_printable (item_words i) ≡ true
 item_sound (item.Page page class_size flag) h =
@@ -149,9 +141,6 @@ items_sound (i ∷ items) h =
     all-append (is_sound is_printable) (item_words i) (flat_map item_words items) (item_sound i (and_parts _ _ h).0) (items_sound items (and_parts _ _ h).1)
 
 reply_sound : (version : Version) (r : Reply) → is_reply version r ≡ true → are_sound is_printable (reply_words r) ≡ true
-reply_sound version reply.Done h = refl
-reply_sound version reply.Yes h = refl
-reply_sound version reply.No h = refl
 reply_sound version (reply.Number n) h = sound_decimals (n ∷ []) h
 reply_sound version (reply.Shape shape) h = sound_decimals (shape.references ∷ shape.numbers ∷ []) (small_numbers (u32 ∷ u32 ∷ []) (shape.references ∷ shape.numbers ∷ []) h refl)
 reply_sound version (reply.Refused refusal) h = refusal_sound refusal
@@ -172,6 +161,7 @@ reply_sound version (reply.Report report) h =
     (λ end. and_from _ _ (optional_sound report.least (and_parts _ _ both.1).0) (and_from _ _ (optional_sound report.floor (and_parts _ _ both.1).1) refl))))))
 reply_sound One (reply.Left quanta) h = cc
 reply_sound Two (reply.Left quanta) h = sound_decimals (quanta ∷ []) h
+reply_sound version other h = refl
 
 -- Entries ----------------------------------------------------------------------------------------
 

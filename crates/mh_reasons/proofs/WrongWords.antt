@@ -314,9 +314,6 @@ unknown_control_tail version (name ∷ []) star some none = absurd (omega arith)
 unknown_control_tail version (name ∷ word ∷ given) star some none = inl (star, formed_unknown (control_rows version) word given none)
 
 pub words_tail : (version : Version) (words : List Text) (r : LineReason) → IsWordsReason version true words r → IsTailWrong version words
-words_tail version words (reason.History of) is = absurd (true_false is.0)
-words_tail version words (reason.NotConfig quoted) is = absurd (true_false is.0)
-words_tail version words (reason.Limit which) is = absurd (true_false is.0)
 words_tail version words (reason.LongName quoted) is = unnamed_tail version words is.0.1 (long_name (word_at words 0) is.1)
 words_tail version words (reason.BadName quoted) is = unnamed_tail version words is.0.1 (other_name (word_at words 0) is.2)
 words_tail version words (reason.NoCommand quoted) is = alone_tail version words is.0.0.1 is.0.1 is.1
@@ -327,21 +324,17 @@ words_tail version words (reason.Operands verb) is = usage_tail version words is
 words_tail version words (reason.Operand quoted fault) is = usage_tail version words is.0 is.1 (operand_unfit is.0.bounds is.0.given quoted fault is.2)
 words_tail version words reason.Comment is = absurd is
 words_tail version words (reason.Bytes fault) is = absurd is
+words_tail version words other is = absurd (true_false is.0)
 
 words_config : (words : List Text) (r : LineReason) → IsWordsReason Two false words r → config_words words ≡ None
 words_config words (reason.History of) is = history_wrong words is.1.0
 words_config words (reason.NotConfig quoted) is = other_wrong words is.1
 words_config words (reason.Limit which) is = limit_wrong words is.1.0 which is.1.1 is.1.2
-words_config words (reason.LongName quoted) is = cc
-words_config words (reason.BadName quoted) is = cc
-words_config words (reason.NoCommand quoted) is = cc
-words_config words (reason.UnknownCommand quoted) is = cc
-words_config words reason.NoControl is = cc
-words_config words (reason.UnknownControl quoted) is = cc
 words_config words (reason.Operands verb) is = usage_config words is.0 is.1 (miscounted is.0.bounds is.0.given is.2.1)
 words_config words (reason.Operand quoted fault) is = usage_config words is.0 is.1 (operand_unfit is.0.bounds is.0.given quoted fault is.2)
 words_config words reason.Comment is = absurd is
 words_config words (reason.Bytes fault) is = absurd is
+words_config words other is = cc
 
 tail_line : (words : List Text) → IsTailWrong Two words → line_words words ≡ Wrong
 tail_line [] wrong = refl

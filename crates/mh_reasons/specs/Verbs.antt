@@ -44,15 +44,10 @@ verb_bounds verb.Same = u32 ∷ u32 ∷ []
 verb_bounds verb.Shape = u32 ∷ []
 verb_bounds verb.Post = u32 ∷ u32 ∷ []
 verb_bounds verb.Take = u32 ∷ u32 ∷ []
-verb_bounds verb.End = []
-verb_bounds verb.Quantum = []
-verb_bounds verb.Start = []
-verb_bounds verb.Stat = []
-verb_bounds verb.Dump = []
 verb_bounds verb.Report = u64 ∷ []
-verb_bounds verb.Left = []
 verb_bounds verb.Rules = u64 ∷ u64 ∷ u64 ∷ u64 ∷ u64 ∷ []
 verb_bounds verb.Units = u64 ∷ u64 ∷ []
+verb_bounds other = []
 
 -- the bounds of the numbers after the first row's word that is this one
 abbrev pub bounds_of : {X : Type 0} → List (Row X) → Text → Option (List ℕ)

@@ -2,3 +2,4 @@ pub mod Agreement
 pub mod FullHeaps
 pub mod FullAlone
 pub mod Moments
+pub mod FullWorlds

@@ -3,6 +3,7 @@ pub mod BufferLemmas
 pub mod FaultLemmas
 pub mod MachineLemmas
 pub mod PieceLemmas
+pub mod PromiseLemmas
 pub mod RunLemmas
 pub mod SourceLemmas
 pub mod OfMachine

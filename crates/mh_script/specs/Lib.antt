@@ -1,4 +1,5 @@
 pub mod Texts
 pub mod Run
+pub mod Promised
 pub mod OfMachine
 pub mod OfReasons

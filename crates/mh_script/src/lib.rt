@@ -12,6 +12,7 @@
 
 pub use mh_machine;
 pub use mh_machine::mh_scan;
+pub use mh_promise;
 pub use mh_reasons;
 
 pub mod end;

@@ -1,5 +1,9 @@
 //! Runs of scripts that are written as their replies.
 //!
+//! The replies that were written are those of an outcome that keeps the promise of `mh_promise`. It is that of all events,
+//! or of the first 1,000,000 if there are more (`promise`). If memory or a device cuts a run short, what was written is a
+//! prefix of such replies.
+//!
 //! A run that ends well has written exactly the output of its script under its rules, and nothing else. It is done only
 //! if the script is within the grammar and has at most 1,000,000 events. It is refused with line L only if L is the
 //! first bad line. That line is then outside the grammar for the reason that is given (`reason`). It is full only after
@@ -15,6 +19,7 @@ ghost use Rattle.std.specs.Prelude.{◌<◌, ◌≤◌, ◌^◌, IfOk, OnErr, Is
 ghost use Rattle.std.specs.Io.KnownBytes.{Keeps};
 ghost use Rattle.mh_model.specs.Output as model;
 ghost use Rattle.mh_model.specs.RunHistories.{output_under};
+ghost use Rattle.mh_script.specs.Promised.{AreReplies, KeepsPromise};
 ghost use Rattle.mh_script.specs.Run.{EndsAs, HasReason, Outputs, TakesToRun, WritesBeginning, replies_run};
 ghost use Rattle.mh_script.specs.Texts.{LeavesSource, Blames, WantsMemory};
 
@@ -27,6 +32,7 @@ use mh_machine::mh_scan::crew_scan::{CrewGate, CrewScan};
 use mh_machine::mh_scan::scan::Scanner;
 use mh_model::command::Event;
 use mh_model::config::{Config, Rules};
+use mh_promise::promise::replies_are_promised;
 use mh_text::script::SCRIPT_BYTES;
 use mh_text::sink::Sink;
 use mh_text::source::Source;
@@ -71,6 +77,7 @@ pub fn run_script<R: Threads, S: Source, W: Sink, G: CrewGate>(
     requires workers { (0 < workers) × (workers ≤ 64) }
     requires source_count { S.failures source.old < 2 ^ 62 }
     requires sink_count { W.failures sink.old < 2 ^ 62 }
+    ensures promise { KeepsPromise AreReplies rules (S.rest source.old) (W.written sink.old) (W.written sink.new) result }
     ensures ends { IfOk result (EndsAs (output_under rules) (S.rest source.old) (W.written sink.old) (W.written sink.new)) }
     ensures reason { IfOk result (HasReason (S.rest source.old)) }
     ensures begun { OnErr result (WritesBeginning (output_under rules) (S.rest source.old) (W.written sink.old) (W.written sink.new)) }
@@ -80,6 +87,7 @@ pub fn run_script<R: Threads, S: Source, W: Sink, G: CrewGate>(
     ensures taken { LeavesSource SCRIPT_BYTES (S.rest source.old) (S.rest source.new) result }
     ensures blames { Blames (S.failures source.old) (S.failures source.new) (W.failures sink.old) (W.failures sink.new) result }
 {
+    replies_are_promised();
     let mut scanner = CrewScan::new(rt, alloc, workers, gate);
     transcribe(alloc, &mut Replies, source, sink, rules, &mut scanner)
 }

@@ -50,9 +50,7 @@ module _ (config : Config) (world : World) where
   effect-under who (command.Write slot index number) = ap (λ (after : World). done after) (change-under (slot_at world (own_slot who slot)) (with_number index number))
   effect-under who (command.Same left right) = refl
   effect-under who (command.Shape slot) = ap (λ object. says (shape_reply (option_map shape_of object)) (world_under config world)) (in-under (own_slot who slot))
-  effect-under who (command.Post board slot) = refl
-  effect-under who (command.Take slot board) = refl
-  effect-under who command.End = refl
+  effect-under who asked = refl
 
   answer-under : (refused : Option Refusal) (old new : Answer World) → new ≡ says old.reply (world_under config old.state)
       → unless_refused refused (world_under config world) new ≡ says (unless_refused refused world old).reply (world_under config (unless_refused refused world old).state)

@@ -54,17 +54,7 @@ beside_first world (first ∷ before) later = beside_first (world_beside_event w
 -- who lacks room is answered by a full heap
 pub lacks_full : (command : Command) (answer : Reply) → lacks_room command answer ≡ true → is_heap_full answer ≡ true
 lacks_full (command.New slot references numbers) answer lacks = lacks
-lacks_full (command.Get slot source field) answer lacks = absurd (false≢true lacks)
-lacks_full (command.Put slot field value) answer lacks = absurd (false≢true lacks)
-lacks_full (command.Copy slot source) answer lacks = absurd (false≢true lacks)
-lacks_full (command.Clear slot) answer lacks = absurd (false≢true lacks)
-lacks_full (command.Read slot index) answer lacks = absurd (false≢true lacks)
-lacks_full (command.Write slot index number) answer lacks = absurd (false≢true lacks)
-lacks_full (command.Same left right) answer lacks = absurd (false≢true lacks)
-lacks_full (command.Shape slot) answer lacks = absurd (false≢true lacks)
-lacks_full (command.Post board slot) answer lacks = absurd (false≢true lacks)
-lacks_full (command.Take slot board) answer lacks = absurd (false≢true lacks)
-lacks_full command.End answer lacks = absurd (false≢true lacks)
+lacks_full asked answer lacks = absurd (false≢true lacks)
 
 -- what isn't a full heap is the world's, and a full heap answers new objects alone, which the world would make
 pub is_seen : (world : World) (asked : Event) (answer : Reply) → ((who : ℕ) (command : Command) → asked ≡ event.Session who command → is_heap_full answer ≡ false → answer ≡ (world_step world who command).reply)

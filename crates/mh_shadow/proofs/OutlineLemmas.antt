@@ -12,7 +12,7 @@ use Rattle.mh_model.specs.declared.reply.Refusal.TheVariants.{BadSlot, Null, NoF
 use Rattle.mh_model.specs.declared.reply.Reply.TheVariants as reply
 use Rattle.mh_model.specs.declared.shape.Shape.{Shape}
 use Rattle.mh_model.specs.World as model
-use Rattle.mh_model.specs.World.{Object, World, Sight, first_world, births, object_at, object_named, object_in, slot_at, shape_of, reference_of, most_fields, own_slot, board_slot, is_bad, is_null, lacks_reference, first_refusal, refusal, blank, with_reference, with_number, with_change, with_object, cleared, effect, sight_of, never_full, heap_step, world_step}
+use Rattle.mh_model.specs.World.{Object, World, births, object_at, object_named, object_in, slot_at, shape_of, reference_of, most_fields, own_slot, board_slot, is_bad, is_null, lacks_reference, first_refusal, refusal, blank, with_reference, with_number, with_change, with_object, cleared, effect, sight_of, never_full, heap_step, world_step}
 use Rattle.mh_table_laws.proofs.Lists.{none_at}
 use Rattle.mh_shadow.specs.Outline.{object_places, Outline, Outlines, IsSound, place_of, slot_in, shape_at, shape_named, reference_in, reference_named}
 use Rattle.mh_shadow.specs.OutlineSteps.{Follows, refused, with_slot, with_name, with_shape, with_end, outline_effect, unless_refused, outline_step, made_shape, shape_unless, shape_made}
@@ -255,13 +255,11 @@ module _ (outline : Outline) (sound : IsSound outline) (world : World) (outlines
       (put-outlined outline world outlines sound (slot_in outline (own_slot who slot)) field (slot_in outline (own_slot who value)) tests.0 tests.1)
   effect-outlined who (command.Copy slot source) passed = with_slot-outlined outline world outlines (own_slot who slot) _ _ (slot-same outline world outlines (own_slot who source))
   effect-outlined who (command.Clear slot) passed = with_slot-outlined outline world outlines (own_slot who slot) None None refl
-  effect-outlined who (command.Read slot index) passed = outlines
   effect-outlined who (command.Write slot index number) passed = numbered-outlined outline world outlines (slot_at world (own_slot who slot)) index number
-  effect-outlined who (command.Same left right) passed = outlines
-  effect-outlined who (command.Shape slot) passed = outlines
   effect-outlined who (command.Post board slot) passed = with_slot-outlined outline world outlines (board_slot board) _ _ (slot-same outline world outlines (own_slot who slot))
   effect-outlined who (command.Take slot board) passed = with_slot-outlined outline world outlines (own_slot who slot) _ _ (slot-same outline world outlines (board_slot board))
   effect-outlined who command.End passed = end-outlined outline world outlines who
+  effect-outlined who other passed = outlines
 
   step-outlined : (who : ℕ) (command : Command) → Outlines (outline_step outline who command) (world_step world who command).state
   unfolding outline_step heap_step
@@ -274,31 +272,11 @@ module _ (outline : Outline) (sound : IsSound outline) (world : World) (outlines
 
   done-made : (who : ℕ) (command : Command) → made_shape command reply.Done ≡ made_shape command (effect world who command).reply
   done-made who (command.New slot references numbers) = refl
-  done-made who (command.Get slot source field) = refl
-  done-made who (command.Put slot field value) = refl
-  done-made who (command.Copy slot source) = refl
-  done-made who (command.Clear slot) = refl
-  done-made who (command.Read slot index) = refl
-  done-made who (command.Write slot index number) = refl
-  done-made who (command.Same left right) = refl
-  done-made who (command.Shape slot) = refl
-  done-made who (command.Post board slot) = refl
-  done-made who (command.Take slot board) = refl
-  done-made who command.End = refl
+  done-made who other = refl
 
   refused-made : (command : Command) (refusal : Refusal) → None ≡ made_shape command (reply.Refused refusal)
   refused-made (command.New slot references numbers) refusal = refl
-  refused-made (command.Get slot source field) refusal = refl
-  refused-made (command.Put slot field value) refusal = refl
-  refused-made (command.Copy slot source) refusal = refl
-  refused-made (command.Clear slot) refusal = refl
-  refused-made (command.Read slot index) refusal = refl
-  refused-made (command.Write slot index number) refusal = refl
-  refused-made (command.Same left right) refusal = refl
-  refused-made (command.Shape slot) refusal = refl
-  refused-made (command.Post board slot) refusal = refl
-  refused-made (command.Take slot board) refusal = refl
-  refused-made command.End refusal = refl
+  refused-made other refusal = refl
 
   step-made : (who : ℕ) (command : Command) → shape_made outline who command ≡ made_shape command (world_step world who command).reply
   unfolding heap_step

@@ -50,13 +50,10 @@ outline_effect outline who (command.Get slot source field) = with_slot outline (
 outline_effect outline who (command.Put slot field value) = with_name outline (slot_in outline (own_slot who slot)) field (slot_in outline (own_slot who value))
 outline_effect outline who (command.Copy slot source) = with_slot outline (own_slot who slot) (slot_in outline (own_slot who source))
 outline_effect outline who (command.Clear slot) = with_slot outline (own_slot who slot) None
-outline_effect outline who (command.Read slot index) = outline
-outline_effect outline who (command.Write slot index number) = outline
-outline_effect outline who (command.Same left right) = outline
-outline_effect outline who (command.Shape slot) = outline
 outline_effect outline who (command.Post board slot) = with_slot outline (board_slot board) (slot_in outline (own_slot who slot))
 outline_effect outline who (command.Take slot board) = with_slot outline (own_slot who slot) (slot_in outline (board_slot board))
 outline_effect outline who command.End = with_end outline who
+outline_effect outline who other = outline
 
 -- a refused command changes nothing
 abbrev pub unless_refused : Option Refusal → Outline → Outline → Outline
@@ -98,10 +95,6 @@ overwritten world who (command.Get slot source field) = slot_at world (own_slot 
 overwritten world who (command.Put slot field value) = reference_of (object_in world (own_slot who slot)) field
 overwritten world who (command.Copy slot source) = slot_at world (own_slot who slot)
 overwritten world who (command.Clear slot) = slot_at world (own_slot who slot)
-overwritten world who (command.Read slot index) = None
-overwritten world who (command.Write slot index number) = None
-overwritten world who (command.Same left right) = None
-overwritten world who (command.Shape slot) = None
 overwritten world who (command.Post board slot) = slot_at world (board_slot board)
 overwritten world who (command.Take slot board) = slot_at world (own_slot who slot)
-overwritten world who command.End = None
+overwritten world who other = None

@@ -13,7 +13,7 @@ use Rattle.mh_model.specs.Table.{Block, references_at}
 use Rattle.mh_model.specs.Collector.{Collector, Marking, Move, Spending, mark_reference, mark_step, next_page, is_last_slot, next_place, survivor, judged_page, swept_page, if_flagged, flagged_page, next_move, moved_table, marking_of, with_marking, with_phase, with_move, step_in, after_mark, is_past, cycle_end, phase_after, collector_step, step_cost, is_moving, is_idle, cycle_start, is_start_due, with_count, quantum_start, steps, with_units, quantum}
 use Rattle.mh_model.specs.Deeds.{reference_deeds, mark_deeds, flag_deeds, page_deeds, sweep_deeds, forward_deeds, slot_deeds, defrag_deeds, deeds_in, enter_deeds, step_deeds, deeds_of_steps, start_deeds, quantum_deeds}
 use Rattle.mh_model.specs.Limits.{root_slots}
-use Rattle.mh_show.specs.Cursor.{Stand, Nowhere, AtRoot, AtPage, Behind, NoCursor, Place, StandsAt, QuantaTellTheCursor, cursor_at, cursor_in, cursor_of, stand_after_all}
+use Rattle.mh_show.specs.Cursor.{Stand, Nowhere, Behind, NoCursor, Place, StandsAt, QuantaTellTheCursor, cursor_at, cursor_in, cursor_of, stand_after_all}
 
 stand_after_all-append : (stand : Stand) (deeds more : List Deed) → stand_after_all stand (deeds ++ more) ≡ stand_after_all (stand_after_all stand deeds) more
 stand_after_all-append stand [] more = refl
@@ -152,9 +152,7 @@ marks-stay marking (place ∷ grey) stand = references-stay (record marking { gr
 -- where there is no cursor in one table, there is none in another
 nowhere : (table other : Table Block) (stand : Stand) → NoCursor ≡ cursor_at table stand → cursor_at other stand ≡ NoCursor
 nowhere table other Nowhere e = refl
-nowhere table other (AtRoot slot) e = cc
-nowhere table other (AtPage page) e = cc
-nowhere table other (Behind place) e = cc
+nowhere table other another e = cc
 
 marking-stands : (collector : Collector) (stand : Stand) → collector.phase ≡ Mark → StandsAt stand collector → StandsAt (stand_after_all stand (mark_deeds (marking_of collector) collector.grey)) (with_marking collector (mark_step (marking_of collector)))
 marking-stands collector stand is at =
@@ -174,11 +172,9 @@ step_in-stands Sweep collector has_moved stand is at =
 step_in-stands Defrag collector has_moved stand is at = defrag-stands collector has_moved stand (flagged_page collector.table collector.cursor) refl
 
 step_in-phase : (phase : Phase) (collector : Collector) → collector.phase ≡ phase → (step_in phase collector).phase ≡ phase
-step_in-phase Idle collector is = is
 step_in-phase Roots collector is = refl
-step_in-phase Mark collector is = is
-step_in-phase Sweep collector is = is
 step_in-phase Defrag collector is = refl
+step_in-phase other collector is = is
 
 -- a step that stays in its phase enters none
 stays : (phase : Phase) (collector : Collector) (stand : Stand) → enter_deeds phase phase ≡ [] → collector.phase ≡ phase → StandsAt stand collector → StandsAt (stand_after_all stand (enter_deeds phase collector.phase)) collector

@@ -1,18 +1,21 @@
 -- Which events of a run a page has, where their run begins, and what is written of them.
-use Rattle.std.proofs.Common.{◌≡◌, ◌∙◌, ℕ, ◌+◌, ◌-◌, ◌<◌, ◌≤◌, min, max, nat_le, Bool, true, false, List, [], ◌++◌, length, take, drop, ap, refl, subst, sym, append_assoc, arith, codes}
+use Rattle.std.proofs.Common.{◌≡◌, ◌∙◌, ℕ, zero, suc, ◌+◌, ◌-◌, ◌<◌, ◌≤◌, min, max, nat_le, Bool, true, false, if◌then◌else◌, List, [], ◌∷◌, ◌++◌, length, take, drop, ap, refl, subst, sym, append_assoc, arith, codes}
 use Rattle.std.proofs.lemmas.Bool.{leb-false, leb-true}
 use Rattle.std.proofs.lemmas.List.{drop-take, drop_all, length-drop, length-take, take_min}
 use Rattle.mh_model.specs.declared.command.Event.{Event}
 use Rattle.mh_model.specs.declared.config.Config.{Config}
+use Rattle.mh_model.specs.declared.reply.Reply.{Reply}
 use Rattle.mh_model.specs.Bytes.{Text}
+use Rattle.mh_model.specs.Deeds.{account_of}
 use Rattle.mh_model.specs.HistoryTexts.{machine_record}
 use Rattle.mh_model.specs.Limits.{most_entries}
-use Rattle.mh_model.specs.Machine.{Machine, first_machine, machine_after}
+use Rattle.mh_model.specs.Machine.{Machine, event_step, first_machine, machine_after, machine_replies}
 use Rattle.mh_model.specs.Trace.{Letter}
 use Rattle.mh_curve.specs.Histories.{letters_of_entries}
 use Rattle.mh_curve.specs.Points.{points_of}
 use Rattle.mh_orders.specs.declared.range.RangeOptions.{RangeOptions}
-use Rattle.mh_show.specs.Page.{HasRun, events_asked, events_before, fitting, front_text, most_bytes, part_text, point_row, run_text, shown_events_text}
+use Rattle.mh_show.specs.Page.{HasRun, IsShown, ShowsReplies, deed_count, event_line, events_asked, events_before, fitting, front_text, most_bytes, page_text, part_text, point_row, run_text, shown_events_text, shown_from, shown_of}
+use Rattle.mh_steps.specs.Steps.{AreInTurn}
 use Rattle.mh_show.specs.Rows.{listed, row_text}
 
 -- Events -----------------------------------------------------------------------------------------
@@ -103,3 +106,60 @@ run_is options config events before asked machine text before_of asked_of machin
     text_is ∙ (ap (λ m. part before m asked) (machine_of ∙ ap (machine_after (first_machine config)) same)
     ∙ (ap (λ n. part n (machine_after (first_machine config) (events_before options events)) asked) before_of
     ∙ ap (part (length (events_before options events)) (machine_after (first_machine config) (events_before options events))) asked_of))
+
+-- Replies ----------------------------------------------------------------------------------------
+
+-- the replies to the first events, and to those from one number to another
+replies_taken : (to : ℕ) (machine : Machine) (events : List Event) → take to (machine_replies machine events) ≡ machine_replies machine (take to events)
+unfolding machine_replies
+replies_taken zero machine events = refl
+replies_taken (suc to) machine [] = refl
+replies_taken (suc to) machine (event ∷ events) = ap (λ replies. (event_step machine event).reply ∷ replies) (replies_taken to (event_step machine event).state events)
+
+replies_asked : (from to : ℕ) (machine : Machine) (events : List Event) → machine_replies (machine_after machine (take from events)) (drop from (take to events)) ≡ drop from (take to (machine_replies machine events))
+unfolding machine_replies machine_after
+replies_asked zero to machine events = sym (replies_taken to machine events)
+replies_asked (suc from) zero machine events = refl
+replies_asked (suc from) (suc to) machine [] = refl
+replies_asked (suc from) (suc to) machine (event ∷ events) = replies_asked from to (event_step machine event).state events
+
+-- of these events so many are shown, each with the machine's reply
+abbrev IsShownOf : ℕ → List Event → List Reply → Text → Type 0
+IsShownOf number events replies lines = (count : ℕ) × AreInTurn (λ _. IsShown) number (take count events) (take count replies) lines
+
+lines_shown : (room count number : ℕ) (machine : Machine) (events : List Event) → IsShownOf number events (machine_replies machine events) (shown_events_text count machine (fitting room count machine events))
+unfolding machine_replies shown_events_text fitting
+lines_shown room count number machine [] = (0, refl)
+lines_shown room count number machine (event ∷ events) = by (nat_le (length line) room) (lines_shown (room - length line) later (suc number) after events) where
+  line : Text
+  line = event_line count machine event
+
+  after : Machine
+  after = (event_step machine event).state
+
+  later : ℕ
+  later = count + deed_count (account_of machine event)
+
+  by : (fits : Bool) → IsShownOf (suc number) events (machine_replies after events) (shown_events_text later after (fitting (room - length line) later after events)) → IsShownOf number (event ∷ events) ((event_step machine event).reply ∷ machine_replies after events)
+      (shown_events_text count machine (if fits then event ∷ fitting (room - length line) later after events else []))
+  by true (more, each) =
+      (suc more, (line, shown_events_text later after (fitting (room - length line) later after events), record { is_whole = _; shown = shown_of machine event; entry_is = refl; is = refl }, each, refl))
+  by false more = (0, refl)
+
+-- a page shows the machine's replies
+pub shows_replies : (options : RangeOptions) (script : Text) (config : Config) (events : List Event) → ShowsReplies options config events (machine_replies (first_machine config) events) (page_text options script config events)
+shows_replies options script config events =
+    let before = events_before options events in
+    let machine = machine_after (first_machine config) before in
+    let asked = events_asked options events in
+    let front = front_text config (length events) (length before) machine in
+    let (count, each) = lines_shown (most_bytes - length front) 0 (suc (options.from - 1)) machine asked in
+    record {
+      script = script;
+      machine = machine;
+      count = count;
+      lines = shown_events_text 0 machine (shown_from front machine asked);
+      entries = machine_record machine (shown_from front machine asked);
+      each = rw (replies_asked (options.from - 1) options.to (first_machine config) events) at each;
+      is = refl;
+    }

@@ -1,8 +1,10 @@
 -- The page of a run: the texts that draw it, and between them its numbers.
-use Rattle.std.specs.Prelude.{◌≡◌, ◌≤◌, ℕ, ◌+◌, ◌-◌, nat_lt, nat_le, Bool, if◌then◌else◌, Option, Some, None, List, [], ◌∷◌, ◌++◌, length, take, drop, codes, decimal}
+use Rattle.std.specs.Prelude.{◌≡◌, ◌≤◌, ℕ, suc, ◌+◌, ◌-◌, nat_lt, nat_le, Bool, if◌then◌else◌, Option, Some, None, List, [], ◌∷◌, ◌++◌, length, take, drop, codes, decimal}
 use Rattle.mh_model.specs.declared.command.Event.{Event}
 use Rattle.mh_model.specs.declared.config.Config.{Config}
+use Rattle.mh_model.specs.declared.history.Entry.{Entry}
 use Rattle.mh_model.specs.declared.history.Measured.{Measured}
+use Rattle.mh_model.specs.declared.reply.Reply.{Reply}
 use Rattle.mh_model.specs.Bytes.{Text, joined}
 use Rattle.mh_model.specs.Deeds.{Account, Ran, account_of}
 use Rattle.mh_model.specs.HistoryTexts.{event_words, rules_number, measured_step, machine_record}
@@ -14,6 +16,7 @@ use Rattle.mh_curve.specs.Histories.{letters_of_entries}
 use Rattle.mh_curve.specs.Points.{points_of}
 use Rattle.mh_orders.specs.declared.range.RangeOptions.{RangeOptions}
 use Rattle.mh_steps.specs.Lines.{quoted}
+use Rattle.mh_steps.specs.Steps.{AreInTurn}
 use Rattle.mh_text.specs.Names.{names_in}
 use Rattle.mh_show.specs.declared.page.TheConstants.{HEAD}
 use Rattle.mh_show.specs.declared.drawing.TheConstants.{DRAWING}
@@ -146,3 +149,22 @@ object_text options script config events = names_part (names_in script) ++ run_t
 -- The page of these events of a run, which are those of this script
 abbrev pub page_text : RangeOptions → Text → Config → List Event → Text
 page_text options script config events = HEAD.now ++ (object_text options script config events ++ (DRAWING.now ++ CONTROLS.now))
+
+-- Replies that are shown -------------------------------------------------------------------------
+
+-- the entry of an event was written on a line
+pub record IsShown (entry : Entry) (line : Text) : Type 0 where
+  pub is_whole : Bool
+  pub shown : Shown
+  pub entry_is : shown.measured.entry ≡ entry
+  pub is : line ≡ shown_text is_whole shown ++ codes ",\n"
+
+-- A page shows these replies to these events: to so many in turn, from the first that is asked for on
+pub record ShowsReplies (options : RangeOptions) (config : Config) (events : List Event) (replies : List Reply) (page : Text) : Type 0 where
+  pub script : Text
+  pub machine : Machine
+  pub count : ℕ
+  pub lines : Text
+  pub entries : List Measured
+  pub each : AreInTurn (λ _. IsShown) (suc (options.from - 1)) (take count (events_asked options events)) (take count (drop (options.from - 1) (take options.to replies))) lines
+  pub is : page ≡ HEAD.now ++ ((names_part (names_in script) ++ (front_text config (length events) (length (events_before options events)) machine ++ (lines ++ rest_text config entries))) ++ (DRAWING.now ++ CONTROLS.now))

@@ -9,7 +9,8 @@ ghost use Rattle.mh_model.specs.Limits.{most_entries};
 ghost use Rattle.mh_model.specs.Output as model;
 ghost use Rattle.mh_curve.specs.OfScript.Run.{EndsAs, HasReason, Outputs, TakesToRun, WritesBeginning, transcript};
 ghost use Rattle.mh_curve.specs.OfScript.Texts.{LeavesSource, Blames, WantsMemory};
-ghost use Rattle.mh_show.specs.Page.{events_asked, events_before, page_text, run_text, object_text};
+ghost use Rattle.mh_show.specs.Page.{ShowsReplies, events_asked, events_before, page_text, run_text, object_text};
+ghost use Rattle.mh_steps.specs.OfScript.Promised.{KeepsPromise};
 ghost use Rattle.mh_text.specs.Stream.{AppendsBeginning};
 
 use crate::controls::CONTROLS;
@@ -25,6 +26,7 @@ use mh_curve::script::machine_after;
 use mh_model::command::Event;
 use mh_model::config::Config;
 use mh_orders::range::RangeOptions;
+use mh_steps::mh_script::mh_promise::promise::replies_are_promised;
 use mh_text::script::SCRIPT_BYTES;
 use mh_text::sink::Sink;
 use mh_text::source::Source;
@@ -150,6 +152,7 @@ pub fn show_script<S: Source, W: Sink>(
 ) -> Result<End, ScriptFault>
     requires source_count { S.failures source.old < 2 ^ 62 }
     requires sink_count { W.failures sink.old < 2 ^ 62 }
+    ensures promise { KeepsPromise (ShowsReplies options) options.rules (S.rest source.old) (W.written sink.old) (W.written sink.new) result }
     ensures ends { IfOk result (EndsAs (transcript (page_text options) options.rules) (S.rest source.old) (W.written sink.old) (W.written sink.new)) }
     ensures reason { IfOk result (HasReason (S.rest source.old)) }
     ensures begun { OnErr result (WritesBeginning (transcript (page_text options) options.rules) (S.rest source.old) (W.written sink.old) (W.written sink.new)) }
@@ -159,6 +162,7 @@ pub fn show_script<S: Source, W: Sink>(
     ensures taken { LeavesSource SCRIPT_BYTES (S.rest source.old) (S.rest source.new) result }
     ensures blames { Blames (S.failures source.old) (S.failures source.new) (W.failures sink.old) (W.failures sink.new) result }
 {
+    replies_are_promised();
     transcribe(
         alloc,
         &mut Shown { options },

@@ -1,7 +1,6 @@
 -- Heaps that are enough for all whose sessions keep to what is known of them.
-use Rattle.std.proofs.Common.{◌≡◌, true, Option, None, Some, List, inl, inr, refl, subst, arith}
+use Rattle.std.proofs.Common.{◌≡◌, true, Option, None, Some, inl, inr, refl, subst, arith}
 use Rattle.std.specs.Prelude.{IfSome}
-use Rattle.mh_model.specs.declared.command.Event.{Event}
 use Rattle.mh_model.specs.declared.config.Config.{Config}
 use Rattle.mh_sizing.proofs.EnoughLemmas.{suffices-other, tested-suffices}
 use Rattle.mh_sizing.proofs.RateLemmas.{rates-keep}
@@ -26,8 +25,7 @@ module _ (law : SufficientHeapsAreNeverFull) (options : HeapOptions) (kept : Ask
     where
       go : (allocation : Allocation) → (profile_of options allocation).startup ≡ None
       go (known.Counts counts) = refl
-      go (known.Rates rates) = refl
-      go (known.Classes classes) = refl
+      go other = refl
 
   enough-for : (heap : Config) → Suffices (profile_asked options) heap → IsEnoughFor options heap
   enough-for heap suffices config events pages quantum trigger keep = law.enough (profile_asked options) config events (kept config events keep) (suffices-other (profile_asked options) heap config unstarted pages quantum trigger suffices)

@@ -1,8 +1,8 @@
 -- What was read of a source settles how its script is sized.
-use Rattle.std.proofs.Common.{◌++◌, ◌≡◌, ℕ, ◌<◌, ◌≤◌, ◌^◌, ◌∙◌, true, false, if◌then◌else◌, nat_lt, List, length, take, Option, None, Some, Result, Ok, Err, ap, subst, sym, refl, arith}
+use Rattle.std.proofs.Common.{◌++◌, ◌≡◌, ℕ, ◌<◌, ◌≤◌, ◌∙◌, true, false, if◌then◌else◌, nat_lt, List, length, take, Option, None, Some, ap, subst, sym, refl, arith}
 use Rattle.std.proofs.lemmas.Bool.Decides.{nat_tests}
 use Rattle.std.specs.Io.KnownBytes.{Appends}
-use Rattle.std.specs.Prelude.{IfOk, IfSome, IsNone, MatchOption}
+use Rattle.std.specs.Prelude.{IfSome}
 use Rattle.mh_model.specs.declared.command.Event.{Event}
 use Rattle.mh_model.specs.declared.config.Config.{Config}
 use Rattle.mh_model.specs.Bytes.{Text, line_text}

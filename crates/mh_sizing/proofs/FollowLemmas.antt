@@ -269,16 +269,14 @@ effect-follows world who (command.Put slot field value) =
     ]
 effect-follows world who (command.Copy slot source) = slot-follows world (own_slot who slot) (slot_at world (own_slot who source)) (slot-reached world (own_slot who source))
 effect-follows world who (command.Clear slot) = slot-follows world (own_slot who slot) None (λ birth is. absurd (none-some birth is))
-effect-follows world who (command.Read slot index) = unchanged world (None ∷ [])
 effect-follows world who (command.Write slot index value) = change-follows world (own_slot who slot) (with_number index value) (None ∷ []) same (λ object other target is. inl is) (λ object other target at is. inl is)
   where
     same : (object : Object) → shape_of (with_number index value object) ≡ shape_of object
     same object = ap {B = Shape} (λ n. record { references = length object.references; numbers = n }) (length-set object.numbers index value)
-effect-follows world who (command.Same left right) = unchanged world (None ∷ [])
-effect-follows world who (command.Shape slot) = unchanged world (None ∷ [])
 effect-follows world who (command.Post board slot) = slot-follows world (board_slot board) (slot_at world (own_slot who slot)) (slot-reached world (own_slot who slot))
 effect-follows world who (command.Take slot board) = slot-follows world (own_slot who slot) (slot_at world (board_slot board)) (slot-reached world (board_slot board))
 effect-follows world who command.End = end-follows world who
+effect-follows world who other = unchanged world (None ∷ [])
 
 pub step-follows : (world : World) (who : ℕ) (c : Command) (answer : Reply) (new : World) → Performs never_full world who c answer new → Follows world new (overwritten world who c) (made c answer)
 unfolding heap_step

@@ -5,14 +5,9 @@
 //! So it is where small new parts share pages, with as few pages as the sharp law asks for.
 ghost use Rattle.mh_sizing.specs.Sized.{SizedHeapsHaveEnough, SizedRunsAreNeverFull, SharedRunsAreNeverFull, SufficientHeapsAreNeverFull};
 
-use mh_sizing_laws::needs::{
-    enough_for_needs_suffices, needs_are_of_the_scheduler, pages_for_footprint_suffice,
-};
-use mh_sizing_laws::sharp_needs::sharp_enough_for_needs_suffices;
-use mh_sizing_laws::started::{
-    enough_after_startup_suffices, sharp_enough_after_startup_suffices,
-    started_needs_are_of_the_scheduler,
-};
+use mh_sizing_laws::needs::needs_are_of_the_scheduler;
+use mh_sizing_laws::room::each_run_has_its_room;
+use mh_sizing_laws::started::started_needs_are_of_the_scheduler;
 
 /// A configuration with enough pages, and with a trigger that is enough or more, has enough for what its sessions need.
 pub fn sized_heaps_have_enough()
@@ -23,25 +18,21 @@ pub fn sized_heaps_have_enough()
 pub fn sized_runs_are_never_full()
     ensures { SizedRunsAreNeverFull }
 {
-    enough_for_needs_suffices();
+    each_run_has_its_room();
 }
 
 /// Nor is one where small parts share pages, if its events make parts of no other classes.
 pub fn shared_runs_are_never_full()
     ensures { SharedRunsAreNeverFull }
 {
-    sharp_enough_for_needs_suffices();
+    each_run_has_its_room();
 }
 
 /// A run is never full in a configuration that is enough for its profile, nor in a heap that was found for it.
 pub fn sufficient_heaps_are_never_full()
     ensures { SufficientHeapsAreNeverFull }
 {
-    enough_for_needs_suffices();
-    sharp_enough_for_needs_suffices();
-    pages_for_footprint_suffice();
-    enough_after_startup_suffices();
-    sharp_enough_after_startup_suffices();
+    each_run_has_its_room();
     needs_are_of_the_scheduler();
     started_needs_are_of_the_scheduler();
 }

@@ -30,7 +30,7 @@ use Rattle.mh_sizing_laws.proofs.openings.Intervals.{new-allowed}
 use Rattle.mh_sizing_laws.proofs.openings.MadeParts.{one_of-same, one_of-other, class_parts-cons}
 use Rattle.mh_sizing_laws.proofs.filling.Ages.{birth_of, ages}
 use Rattle.mh_sizing_laws.proofs.filling.AgedCommands.{linked_parts-ages, with_root-ages, heap_effect-ages}
-use Rattle.mh_sizing_laws.proofs.needs.FullWorlds.{tested_by_the_world}
+use Rattle.mh_run_laws.proofs.worlds.FullWorlds.{tested_by_the_world}
 use Rattle.mh_sizing_laws.proofs.triggers.Commands.{not_full}
 use Rattle.mh_sizing_laws.proofs.triggers.FoundPlaces.{HaveClasses}
 

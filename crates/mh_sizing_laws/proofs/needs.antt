@@ -8,7 +8,6 @@ pub mod ClassFootprint
 pub mod ClassQuanta
 pub mod OpenedInAll
 pub mod OtherConfigs
-pub mod FullWorlds
 pub mod Accepted
 pub mod QuantumWorlds
 pub mod AcceptedRuns

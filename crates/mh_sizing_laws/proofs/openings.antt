@@ -1,4 +1,2 @@
-pub mod Rooms
 pub mod MadeParts
-pub mod KeptRoom
 pub mod Intervals

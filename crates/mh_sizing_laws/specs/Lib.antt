@@ -6,6 +6,7 @@ pub mod Reached
 pub mod AtQuanta
 pub mod Made
 pub mod Needs
+pub mod Rooms
 pub mod Filling
 pub mod Anchors
 pub mod Filled

@@ -9,6 +9,7 @@ pub mod needs;
 pub mod openings;
 pub mod pages_left;
 pub mod reached;
+pub mod room;
 pub mod sharp_anchors;
 pub mod sharp_needs;
 pub mod sharp_pages;

@@ -33,9 +33,7 @@ effect-plain heap who (command.Shape slot) = go (shape_at heap (own_slot who slo
     go : (shape : Option Shape) → IsNoDump (shape_reply shape)
     go None = tt
     go (Some shape) = tt
-effect-plain heap who (command.Post board slot) = tt
-effect-plain heap who (command.Take slot board) = tt
-effect-plain heap who command.End = tt
+effect-plain heap who asked = tt
 
 mutator-plain : (heap : HeapState) (who : _) (command : Command) → IsNoDump (mutator_step heap who command).reply
 unfolding mutator_step
@@ -58,8 +56,5 @@ quantum-plain machine false = tt
 pub control-plain : (machine : Machine) (asked : Control) → ¬ (asked ≡ control.Dump) → IsNoDump (event_step machine (event.Control asked)).reply
 unfolding event_step control_step
 control-plain machine control.Quantum other = quantum-plain machine (machine.heap.config.every == 0)
-control-plain machine control.Start other = tt
-control-plain machine control.Stat other = tt
 control-plain machine control.Dump other = absurd (other refl)
-control-plain machine control.Left other = tt
-control-plain machine (control.Report window) other = tt
+control-plain machine asked other = tt

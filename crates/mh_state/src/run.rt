@@ -5,6 +5,9 @@
 //! it did (`so_far`). It stops for a full history exactly when these are 1,000,000, and only if there are more. If it
 //! did any events, it stops only with more left.
 //!
+//! A program that has its events in memory calls `run`: here tests alone do. `metroheap run` writes each reply and keeps
+//! none (`run_script` of `mh_script`).
+//!
 //! It opens a machine before anything else, so no clause says when memory is refused to it. It asks for a `CrewGate`, a
 //! hook that the threads of a crew can call. For one thread `Gate` alone would do.
 ghost use Rattle.std.specs.Prelude.{◌≡◌, ◌<◌, ◌≤◌, IfOk, OnOk, IfErr, OnErr, IsErrOf, length, vec_len};

@@ -5,6 +5,8 @@
 //! 1,000,000 entries. It answers out of memory only if the machine asks for memory or the history has no room for an
 //! entry (`memory`). Both leave machine and history as they were.
 //!
+//! `State::apply` is for users of this crate: here an example and tests call it. The service calls `apply_with_copy`.
+//!
 //! All growths come before the event: room in the trace, the entry's place in the history, and the handles of a dump.
 //! If memory for the event is then refused, the room that was made stays, since room is no part of either.
 ghost use Rattle.std.specs.Prelude.{◌≡◌, ◌<◌, ◌⊎◌, IfOk, OnOk, OnErr, IsErrOf, length, vec_len};

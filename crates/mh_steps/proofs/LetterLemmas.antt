@@ -1,5 +1,5 @@
 -- The letters that an event adds to the trace: those of its command, and then what its quantum spent.
-use Rattle.std.proofs.Common.{◌≡◌, ◌∙◌, ℕ, ◌+◌, ◌-◌, ◌≤◌, ◌==◌, Bool, true, false, if◌then◌else◌, List, [], ◌∷◌, ◌++◌, length, replicate, refl, sym, ap, append-nil, arith}
+use Rattle.std.proofs.Common.{◌≡◌, ◌∙◌, ℕ, ◌+◌, ◌-◌, ◌≤◌, ◌==◌, Bool, true, false, if◌then◌else◌, List, [], ◌++◌, length, replicate, refl, sym, ap, append-nil, arith}
 use Rattle.mh_model.specs.declared.command.Command.{Command}
 use Rattle.mh_model.specs.declared.command.Control.{Control}
 use Rattle.mh_model.specs.declared.command.Control.TheVariants as control
@@ -44,11 +44,7 @@ pub adds : (machine : Machine) (e : Event) → Adds machine.trace.letters (event
 unfolding event_step account_of control_step
 adds machine (event.Session who command) = commanded machine who command
 adds machine (event.Control control.Quantum) = record { mutator = 0; letters = on_request machine (machine.heap.config.every == 0) }
-adds machine (event.Control control.Start) = record { mutator = 0; letters = none machine.trace.letters }
-adds machine (event.Control control.Stat) = record { mutator = 0; letters = none machine.trace.letters }
-adds machine (event.Control control.Dump) = record { mutator = 0; letters = none machine.trace.letters }
-adds machine (event.Control control.Left) = record { mutator = 0; letters = none machine.trace.letters }
-adds machine (event.Control (control.Report window)) = record { mutator = 0; letters = none machine.trace.letters }
+adds machine (event.Control asked) = record { mutator = 0; letters = none machine.trace.letters }
 
 -- what an event adds to the counts and to the length of the trace
 pub record Counts (before after : List Letter) (spent : ℕ) : Type 0 where
@@ -73,8 +69,4 @@ quiet_control machine control.Quantum = by (machine.heap.config.every == 0) wher
   by : (none_scheduled : Bool) → mutator_count (if none_scheduled then quantum_run machine else says (reply.Spent 0 machine.heap.collector.phase) machine).state.trace.letters ≡ mutator_count machine.trace.letters
   by true = ap mutator_count (ran machine true) ∙ mutator-C machine.trace.letters (spent_by (ran_if true machine.heap))
   by false = refl
-quiet_control machine control.Start = refl
-quiet_control machine control.Stat = refl
-quiet_control machine control.Dump = refl
-quiet_control machine control.Left = refl
-quiet_control machine (control.Report window) = refl
+quiet_control machine asked = refl

@@ -17,16 +17,7 @@ use Rattle.mh_steps.specs.Lines.{quoted}
 -- each reply has a word at least
 reply_part : (r : Reply) → joined (codes "=" ∷ reply_words r) ≡ codes "= " ++ reply_text r
 reply_part reply.Done = refl
-reply_part (reply.Number number) = refl
-reply_part reply.Yes = refl
-reply_part reply.No = refl
-reply_part (reply.Shape shape) = refl
-reply_part (reply.Refused refusal) = refl
-reply_part (reply.Spent units phase) = refl
-reply_part (reply.Stat stat) = refl
-reply_part (reply.Dump items) = refl
-reply_part (reply.Report report) = refl
-reply_part (reply.Left quanta) = refl
+reply_part other = refl
 
 event_part : (e : Event) (next : Text) (more : List Text) → joined (event_words e ++ next ∷ more) ≡ joined (event_words e) ++ 32 ∷ joined (next ∷ more)
 event_part (event.Session who command) next more = joined-append (115 ∷ decimal who) (phrase_words (command_phrase command)) next more

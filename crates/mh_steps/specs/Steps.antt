@@ -1,7 +1,9 @@
 -- What a run of a script writes as its steps: each event with its reply, and below it what it did.
-use Rattle.std.specs.Prelude.{ℕ, suc, if◌then◌else◌, List, [], ◌∷◌, ◌++◌}
+use Rattle.std.specs.Prelude.{◌≡◌, ℕ, suc, if◌then◌else◌, List, [], ◌∷◌, ◌++◌}
 use Rattle.mh_model.specs.declared.command.Event.{Event}
 use Rattle.mh_model.specs.declared.config.Config.{Config}
+use Rattle.mh_model.specs.declared.history.Entry.{Entry}
+use Rattle.mh_model.specs.declared.reply.Reply.{Reply}
 use Rattle.mh_model.specs.Bytes.{Text}
 use Rattle.mh_model.specs.Deeds.{Account, account_of}
 use Rattle.mh_model.specs.Machine.{Machine, first_machine, event_step}
@@ -37,3 +39,28 @@ steps_text steps config events = events_text steps 1 (first_machine config) even
 -- The same of a run of this script, below its configuration and the names of its sessions
 abbrev pub told_text : Steps → Text → Config → List Event → Text
 told_text steps script config events = config_line steps.form config ++ (names_text steps.form 0 (names_in script) ++ steps_text steps config events)
+
+-- Replies that are shown -------------------------------------------------------------------------
+
+-- These events in turn, each with its reply, were written so, and nothing else was. The first of them has this number
+abbrev pub AreInTurn : {A : Type 0} → (ℕ → Entry → List A → Type 0) → ℕ → List Event → List Reply → List A → Type 0
+AreInTurn IsWritten number [] [] written = written ≡ []
+AreInTurn IsWritten number (event ∷ events) (reply ∷ replies) written =
+    (first rest : List _) × IsWritten number (record { event = event; reply = reply }) first × AreInTurn IsWritten (suc number) events replies rest × (written ≡ first ++ rest)
+AreInTurn IsWritten number events replies written = ⊥
+
+-- the entry of the event of this number was written as a line, and below it what an event did, if that is asked for
+pub record IsTold (steps : Steps) (number : ℕ) (entry : Entry) (text : Text) : Type 0 where
+  pub moment : Moment
+  pub counts : Counts
+  pub quantum : ℕ
+  pub account : Account
+  pub numbered : moment.number ≡ number
+  pub is : text ≡ entry_line steps.form moment entry ++ deeds_text steps moment counts quantum account
+
+-- A text tells these replies to these events, below the configuration and the names of a script's sessions
+pub record TellsReplies (steps : Steps) (config : Config) (events : List Event) (replies : List Reply) (text : Text) : Type 0 where
+  pub script : Text
+  pub told : Text
+  pub each : AreInTurn (IsTold steps) 1 events replies told
+  pub is : text ≡ config_line steps.form config ++ (names_text steps.form 0 (names_in script) ++ told)

@@ -16,12 +16,13 @@ ghost use Rattle.mh_model.specs.Limits.{most_entries};
 ghost use Rattle.mh_model.specs.Machine.{event_step};
 ghost use Rattle.mh_model.specs.Output as model;
 ghost use Rattle.mh_orders.specs.Steps.{is_asked};
+ghost use Rattle.mh_script.specs.Promised.{KeepsPromise};
 ghost use Rattle.mh_script.specs.Run.{EndsAs, HasReason, Outputs, TakesToRun, WritesBeginning, transcript};
 ghost use Rattle.mh_script.specs.Texts.{LeavesSource, Blames, WantsMemory};
 ghost use Rattle.mh_script.specs.OfMachine.Running.{Does};
 ghost use Rattle.mh_steps.specs.Figures.{counts_of};
 ghost use Rattle.mh_steps.specs.Lines.{config_line, entry_line};
-ghost use Rattle.mh_steps.specs.Steps.{deeds_text, event_text, events_text, steps_text, told_text};
+ghost use Rattle.mh_steps.specs.Steps.{TellsReplies, deeds_text, event_text, events_text, steps_text, told_text};
 ghost use Rattle.mh_text.specs.Stream.{AppendsBeginning};
 
 use crate::entry::{push_config_line, push_entry_line};
@@ -38,6 +39,7 @@ use mh_orders::steps::Steps;
 use mh_script::end::End;
 use mh_script::fault::{ScriptFault, WriteError};
 use mh_script::mh_machine::machine::Machine;
+use mh_script::mh_promise::promise::replies_are_promised;
 use mh_script::mh_scan::scan::{OneScan, Scanner};
 use mh_script::texts::{flush, flush_full};
 use mh_script::transcript::{Transcript, transcribe};
@@ -250,6 +252,7 @@ pub fn tell_script<S: Source, W: Sink>(
 ) -> Result<End, ScriptFault>
     requires source_count { S.failures source.old < 2 ^ 62 }
     requires sink_count { W.failures sink.old < 2 ^ 62 }
+    ensures promise { KeepsPromise (TellsReplies steps) rules (S.rest source.old) (W.written sink.old) (W.written sink.new) result }
     ensures ends { IfOk result (EndsAs (transcript (told_text steps) rules) (S.rest source.old) (W.written sink.old) (W.written sink.new)) }
     ensures reason { IfOk result (HasReason (S.rest source.old)) }
     ensures begun { OnErr result (WritesBeginning (transcript (told_text steps) rules) (S.rest source.old) (W.written sink.old) (W.written sink.new)) }
@@ -259,6 +262,7 @@ pub fn tell_script<S: Source, W: Sink>(
     ensures taken { LeavesSource SCRIPT_BYTES (S.rest source.old) (S.rest source.new) result }
     ensures blames { Blames (S.failures source.old) (S.failures source.new) (W.failures sink.old) (W.failures sink.new) result }
 {
+    replies_are_promised();
     let mut steps = Stepped { steps };
     transcribe(
         alloc,

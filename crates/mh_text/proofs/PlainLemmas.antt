@@ -175,16 +175,11 @@ command_one word a x first =
 
 pub three_is_word : (verb : VerbOfThree) → IsWord (three_word verb)
 three_is_word New = (refl, refl)
-three_is_word Get = (refl, refl)
-three_is_word Put = (refl, refl)
-three_is_word Write = (refl, refl)
+three_is_word other = (refl, refl)
 
 pub two_is_word : (verb : VerbOfTwo) → IsWord (two_word verb)
 two_is_word Copy = (refl, refl)
-two_is_word Read = (refl, refl)
-two_is_word Same = (refl, refl)
-two_is_word Post = (refl, refl)
-two_is_word Take = (refl, refl)
+two_is_word other = (refl, refl)
 
 pub one_is_word : (verb : VerbOfOne) → IsWord (one_word verb)
 one_is_word Clear = (refl, refl)

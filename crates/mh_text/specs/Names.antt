@@ -7,10 +7,8 @@ use Rattle.mh_model.specs.Script.{Line, Blank, Calls, Asks, Wrong, line_of, sess
 -- the names of the sessions that these lines call, after some that were seen before: in the order in which they are first seen, eight at most
 abbrev pub names_from : List Text → List Line → List Text
 names_from names [] = names
-names_from names (Blank ∷ lines) = names_from names lines
 names_from names (Calls name command ∷ lines) = names_from (with_name names name) lines
-names_from names (Asks control ∷ lines) = names_from names lines
-names_from names (Wrong ∷ lines) = names_from names lines
+names_from names (other ∷ lines) = names_from names lines
 
 -- The names of the sessions of a script. Its configuration calls none
 abbrev pub names_in : Text → List Text

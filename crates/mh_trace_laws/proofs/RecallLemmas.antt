@@ -58,11 +58,7 @@ module _ (whole : Machine) (end : TraceState) (is : IsEndOf whole.trace end) whe
           (if none then quantum_run (record whole { trace = end }) else says (reply.Spent 0 whole.heap.collector.phase) (record whole { trace = end })).state
       go true = quantum-end
       go false = record { same = refl; trace = is }
-  control-end control.Start = record { same = refl; trace = is }
-  control-end control.Stat = record { same = refl; trace = is }
-  control-end control.Dump = record { same = refl; trace = is }
-  control-end control.Left = record { same = refl; trace = is }
-  control-end (control.Report window) = record { same = refl; trace = is }
+  control-end asked = record { same = refl; trace = is }
 
   -- and what it answers
   command-answers : (who : ℕ) (command : Command) → (command_step (record whole { trace = end }) who command).reply ≡ (command_step whole who command).reply
@@ -81,11 +77,8 @@ module _ (whole : Machine) (end : TraceState) (is : IsEndOf whole.trace end) whe
           ≡ (if by_hand then quantum_run whole else says (reply.Spent 0 whole.heap.collector.phase) whole).reply
       go true = quantum-answers
       go false = refl
-  control-answers control.Start none = refl
-  control-answers control.Stat none = refl
-  control-answers control.Dump none = refl
-  control-answers control.Left none = refl
   control-answers (control.Report window) none = cc
+  control-answers other none = refl
 
 -- Any two, of which one recalls the other --------------------------------------------------------
 

@@ -4,8 +4,8 @@ use Rattle.std.proofs.lemmas.Bool.Decides.{nat_tests}
 use Rattle.std.proofs.lemmas.Nat.{mul-le}
 use Rattle.mh_model.specs.Trace.{Letter}
 use Rattle.mh_window_laws.specs.Laws.{LeastGrows, SharesBetween}
-use Rattle.mh_window_laws.specs.Windows.{IsLeast, units_in}
-use Rattle.mh_window_laws.proofs.StretchLemmas.{before, least_at, units_between, units_few}
+use Rattle.mh_window_laws.specs.Windows.{IsLeast, before, units_in}
+use Rattle.mh_window_laws.proofs.StretchLemmas.{least_at, units_between, units_few}
 
 module _ (letters : List Letter) where
   -- a stretch has its beginnings in it

@@ -4,13 +4,9 @@ use Rattle.std.proofs.lemmas.List.{length-take, take_all}
 use Rattle.std.proofs.lemmas.Bool.Decides.{nat_tests}
 use Rattle.mh_model.specs.Trace.{Letter, M, C, mutator_count, stretches, lesser, least_of, least_mutator}
 use Rattle.mh_window_laws.specs.Laws.{LeastIsOfStretches}
-use Rattle.mh_window_laws.specs.Windows.{IsLeast, units_in}
+use Rattle.mh_window_laws.specs.Windows.{IsLeast, before, units_in}
 
 -- Units ------------------------------------------------------------------------------------------
-
--- how many of the first letters are the mutator's
-abbrev pub before : List Letter → ℕ → ℕ
-before letters place = mutator_count (take place letters)
 
 count_few : (letters : List Letter) → mutator_count letters ≤ length letters
 count_few [] = omega arith

@@ -2,6 +2,10 @@
 use Rattle.std.specs.Prelude.{◌≡◌, ℕ, ◌+◌, ◌*◌, ◌≤◌, Some, List, drop, length, take}
 use Rattle.mh_model.specs.Trace.{Letter, floor, least_mutator, mutator_count}
 
+-- how many of the first letters are the mutator's
+abbrev pub before : List Letter → ℕ → ℕ
+before letters place = mutator_count (take place letters)
+
 -- how many units of the mutator are in the stretch of so many letters that begins after so many
 abbrev pub units_in : List Letter → (start window : ℕ) → ℕ
 units_in letters start window = mutator_count (take window (drop start letters))

@@ -5,8 +5,8 @@ use Rattle.std.proofs.lemmas.List.{length-drop}
 use Rattle.mh_model.specs.Trace.{Letter, M, C, least_mutator}
 use Rattle.mh_report.specs.Slides.{Passing, alike, passings, passings_of}
 use Rattle.mh_report.specs.Walk.{mutator_units}
-use Rattle.mh_window_laws.specs.Windows.{units_in}
-use Rattle.mh_window_laws.proofs.StretchLemmas.{before, stretches_have_least, units_between}
+use Rattle.mh_window_laws.specs.Windows.{before, units_in}
+use Rattle.mh_window_laws.proofs.StretchLemmas.{stretches_have_least, units_between}
 use Rattle.mh_windows.specs.Lowest.{IsLowest, LowestState, first_lowest, here, slid_on, slid_over}
 
 -- Steps alike --------------------------------------------------------------------------------------

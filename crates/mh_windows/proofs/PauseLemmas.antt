@@ -5,8 +5,8 @@ use Rattle.std.proofs.lemmas.List.{length-drop, length-replicate}
 use Rattle.mh_model.specs.Trace.{Letter, M, C}
 use Rattle.mh_report.specs.Slides.{Passing, alike, passings, passings_of}
 use Rattle.mh_report.specs.Walk.{mutator_units}
-use Rattle.mh_window_laws.specs.Windows.{units_in}
-use Rattle.mh_window_laws.proofs.StretchLemmas.{before, units_between}
+use Rattle.mh_window_laws.specs.Windows.{before, units_in}
+use Rattle.mh_window_laws.proofs.StretchLemmas.{units_between}
 use Rattle.mh_windows.specs.Pauses.{Goes, HasGone, IsLongest, PauseState, StandsNext, here_after, longer_of}
 use Rattle.mh_windows.proofs.ShareLemmas.{enough, leave_alike, passings_long}
 

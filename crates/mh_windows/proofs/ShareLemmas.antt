@@ -7,8 +7,8 @@ use Rattle.std.proofs.lemmas.Nat.{mul-le}
 use Rattle.mh_model.specs.Trace.{Letter, M, C, mutator_count}
 use Rattle.mh_report.specs.Slides.{Passing, alike, passings, passings_of}
 use Rattle.mh_report.specs.Walk.{mutator_units}
-use Rattle.mh_window_laws.specs.Windows.{KeepsShare, units_in}
-use Rattle.mh_window_laws.proofs.StretchLemmas.{before, least_at, no_longer, units_between}
+use Rattle.mh_window_laws.specs.Windows.{KeepsShare, before, units_in}
+use Rattle.mh_window_laws.proofs.StretchLemmas.{least_at, no_longer, units_between}
 use Rattle.mh_windows.specs.declared.share.Place.{Place}
 use Rattle.mh_windows.specs.declared.share.Stretch.{Stretch}
 use Rattle.mh_windows.specs.Shares.{HasFound, IsNext, IsPlace, IsShort, KeepsBetween, ShareState, Slides}

@@ -2,8 +2,7 @@
 use Rattle.std.specs.Prelude.{◌≡◌, ℕ, ◌+◌, ◌-◌, ◌*◌, ◌<◌, ◌≤◌, Option, MatchOption, List, ◌++◌, drop, length}
 use Rattle.mh_model.specs.Trace.{Letter}
 use Rattle.mh_report.specs.Slides.{Passing, passings}
-use Rattle.mh_window_laws.specs.Windows.{units_in}
-use Rattle.mh_window_laws.proofs.StretchLemmas.{before}
+use Rattle.mh_window_laws.specs.Windows.{before, units_in}
 use Rattle.mh_windows.specs.declared.share.Place.{Place}
 use Rattle.mh_windows.specs.declared.share.Stretch.{Stretch}
 

@@ -82,22 +82,16 @@ charge true = 0
 charge false = root_slots
 
 charged : (phase : Phase) (collector : Collector) (has_moved : Bool) → cost_in phase collector has_moved + charge (has_moved || is_moving_in phase collector) ≡ cost_in phase collector true + charge has_moved
-charged Idle collector true = refl
-charged Idle collector false = refl
-charged Roots collector true = refl
-charged Roots collector false = refl
-charged Mark collector true = refl
-charged Mark collector false = refl
-charged Sweep collector true = refl
-charged Sweep collector false = refl
-charged Defrag collector true = refl
 charged Defrag collector false = go (next_move collector.table collector.cursor)
   where
     go : (move : Option Move) → move_cost false move + charge (is_some move) ≡ move_cost true move + root_slots
     go None = refl
     go (Some move) = omega arith
+charged Defrag collector true = refl
+charged other collector true = refl
+charged other collector false = refl
 
-step-charged : (collector : Collector) (has_moved : Bool) → step_cost collector has_moved + charge (has_moved || is_moving collector) ≡ cost_in collector.phase collector true + charge has_moved
+pub step-charged : (collector : Collector) (has_moved : Bool) → step_cost collector has_moved + charge (has_moved || is_moving collector) ≡ cost_in collector.phase collector true + charge has_moved
 unfolding step_cost
 step-charged collector has_moved = charged collector.phase collector has_moved
 

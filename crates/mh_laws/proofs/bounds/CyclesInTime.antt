@@ -12,7 +12,7 @@ use Rattle.mh_model.specs.declared.command.Event.{Event}
 use Rattle.mh_model.specs.declared.reply.Reply.TheVariants as reply
 use Rattle.mh_model.specs.declared.config.Config.{Config}
 use Rattle.mh_model.specs.declared.cycle.Phase.{Phase}
-use Rattle.mh_model.specs.declared.cycle.Phase.TheVariants.{Idle, Roots, Mark, Sweep, Defrag}
+use Rattle.mh_model.specs.declared.cycle.Phase.TheVariants.{Idle}
 use Rattle.mh_model.specs.Collector.{Collector, Spending, first_collector, is_idle, cycle_start, quantum_start, steps, quantum}
 use Rattle.mh_model.specs.Mutator.{HeapState, mutator_step}
 use Rattle.mh_model.specs.World.{says}
@@ -88,27 +88,18 @@ module _ (collector : Collector) (quanta : ℕ) (is_asked : Bool) where
 
   stage-recounted : (phase : Phase) → StageOf phase collector → StageOf phase recounted
   stage-recounted Idle stage = stage
-  stage-recounted Roots stage = stage
-  stage-recounted Mark stage = stage
-  stage-recounted Sweep stage = stage
-  stage-recounted Defrag stage = stage
+  stage-recounted other stage = stage
 
   under-recounted : IsUnderway collector → IsUnderway recounted
   under-recounted under = record { some_page = under.some_page; sound = under.sound; stage = stage-recounted collector.phase under.stage }
 
   steps-recounted : (phase : Phase) → steps_left phase recounted ≡ steps_left phase collector
   steps-recounted Idle = refl
-  steps-recounted Roots = refl
-  steps-recounted Mark = refl
-  steps-recounted Sweep = refl
-  steps-recounted Defrag = refl
+  steps-recounted other = refl
 
   units-recounted : (phase : Phase) → units_left phase recounted ≡ units_left phase collector
   units-recounted Idle = refl
-  units-recounted Roots = refl
-  units-recounted Mark = refl
-  units-recounted Sweep = refl
-  units-recounted Defrag = refl
+  units-recounted other = refl
 
 with_count-started : (config : Config) (collector : Collector) → IsInBounds config collector → is_idle collector.phase ≡ false → IsStarted config collector (record collector { quanta = collector.quanta + 1 })
 with_count-started config collector bounds runs =
@@ -149,10 +140,7 @@ quantum-idle config collector bounds idle = subst (IsQuantum config collector) (
 -- nothing is left if no cycle runs
 pub idle-left : (phase : Phase) (collector : Collector) → is_idle phase ≡ true → (steps_left phase collector ≡ 0) × (units_left phase collector ≡ 0)
 idle-left Idle collector idle = (refl, refl)
-idle-left Roots collector idle = absurd (true≢false (sym idle))
-idle-left Mark collector idle = absurd (true≢false (sym idle))
-idle-left Sweep collector idle = absurd (true≢false (sym idle))
-idle-left Defrag collector idle = absurd (true≢false (sym idle))
+idle-left other collector idle = absurd (true≢false (sym idle))
 
 started-within : (config : Config) (old new : Collector) → IsStarted config old new → (after : Spending) → Spends false config.quantum new after
     → steps_left after.collector.phase after.collector + 1 ≤ steps_left new.phase new → KeepsCount new after.collector

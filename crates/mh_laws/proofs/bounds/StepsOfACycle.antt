@@ -3,7 +3,7 @@ use Rattle.std.proofs.Common.{◌≡◌, suc, ◌+◌, ◌≤◌, true, false, i
 use Rattle.std.proofs.lemmas.Bool.{cases_Bool, true≢false}
 use Rattle.mh_model.specs.declared.config.Config.{Config}
 use Rattle.mh_model.specs.declared.cycle.Phase.{Phase}
-use Rattle.mh_model.specs.declared.cycle.Phase.TheVariants.{Idle, Roots, Mark, Sweep, Defrag}
+use Rattle.mh_model.specs.declared.cycle.Phase.TheVariants.{Idle}
 use Rattle.mh_model.specs.Collector.{Collector, cycle_start, cost_in, step_in, phase_after, collector_step, is_idle}
 use Rattle.mh_model.specs.Mutator.{HeapState, mutator_step}
 use Rattle.mh_model.specs.Bound.{most_steps, most_units}
@@ -22,10 +22,7 @@ step-idle collector idle = go collector.phase idle
   where
     go : (phase : Phase) → is_idle phase ≡ true → (phase_after phase (step_in phase collector) ≡ collector) × (cost_in phase collector true ≡ 0)
     go Idle e = (refl, refl)
-    go Roots e = absurd (true≢false (sym e))
-    go Mark e = absurd (true≢false (sym e))
-    go Sweep e = absurd (true≢false (sym e))
-    go Defrag e = absurd (true≢false (sym e))
+    go other e = absurd (true≢false (sym e))
 
 -- a step keeps a collector on its way
 pub step-under : (collector : Collector) → IsUnderway collector → IsUnderway (collector_step collector)

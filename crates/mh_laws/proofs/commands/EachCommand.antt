@@ -116,13 +116,11 @@ module _ (R : Collector → Collector → Type 0) (kept : IsKeptByCommands R) wh
   heap_effect-each heap who (command.Put slot field value) parts = with_reference_stored-each heap.collector (field_of heap (own_slot who slot) field) (root_at heap (own_slot who value))
   heap_effect-each heap who (command.Copy slot source) parts = with_root-each heap.collector (own_slot who slot) (root_at heap (own_slot who source))
   heap_effect-each heap who (command.Clear slot) parts = with_root-each heap.collector (own_slot who slot) None
-  heap_effect-each heap who (command.Read slot index) parts = kept.same heap.collector
   heap_effect-each heap who (command.Write slot index number) parts = kept.numbered heap.collector (number_field heap (own_slot who slot) index) number
-  heap_effect-each heap who (command.Same left right) parts = kept.same heap.collector
-  heap_effect-each heap who (command.Shape slot) parts = kept.same heap.collector
   heap_effect-each heap who (command.Post board slot) parts = with_root-each heap.collector (board_slot board) (root_at heap (own_slot who slot))
   heap_effect-each heap who (command.Take slot board) parts = with_root-each heap.collector (own_slot who slot) (root_at heap (board_slot board))
   heap_effect-each heap who command.End parts = with_session_cleared-each heap.collector who
+  heap_effect-each heap who other parts = kept.same heap.collector
 
   -- and so it is with its refusals, since what is refused changes nothing
   pub mutator_step-each : (heap : HeapState) (who : ℕ) (c : Command) → (refusal (heap_sight heap) who c ≡ None → R heap.collector (heap_effect heap who c).state.collector) → R heap.collector (mutator_step heap who c).state.collector

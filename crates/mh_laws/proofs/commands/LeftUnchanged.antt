@@ -314,9 +314,7 @@ effect-refused heap who (command.Read slot index) refused e = refl
 effect-refused heap who (command.Write slot index number) refused e = cc
 effect-refused heap who (command.Same left right) refused e = refl
 effect-refused heap who (command.Shape slot) refused e = refl
-effect-refused heap who (command.Post board slot) refused e = cc
-effect-refused heap who (command.Take slot board) refused e = cc
-effect-refused heap who command.End refused e = cc
+effect-refused heap who asked refused e = cc
 
 -- A command that is answered by a refusal leaves the heap as it was
 pub mutator_step-refused : (heap : HeapState) (who : ℕ) (command : Command) (refused : Refusal) → (mutator_step heap who command).reply ≡ reply.Refused refused → (mutator_step heap who command).state ≡ heap

@@ -74,11 +74,9 @@ next_move-small : (table : Table Block) (place : ℕ) → IsSized table → (mov
 next_move-small table place sized move e = let is = next_move-is table place move e in rw (← is.class) (sized.classes (page_number place) is.page is.in_use)
 
 cost_in-bounded : (phase : Phase) (collector : Collector) (has_moved : Bool) → IsSized collector.table → cost_in phase collector has_moved ≤ least_quantum
-cost_in-bounded Idle collector has_moved sized = omega arith
-cost_in-bounded Roots collector has_moved sized = omega arith
 cost_in-bounded Mark collector has_moved sized = omega (arith, first_mark_cost-bounded collector.table sized collector.grey)
-cost_in-bounded Sweep collector has_moved sized = omega arith
 cost_in-bounded Defrag collector has_moved sized = move_cost-bounded has_moved (next_move collector.table collector.cursor) (next_move-small collector.table collector.cursor sized)
+cost_in-bounded other collector has_moved sized = omega arith
 
 -- The dearest step costs 209
 pub step_cost-bounded : (collector : Collector) (has_moved : Bool) → IsSized collector.table → step_cost collector has_moved ≤ least_quantum

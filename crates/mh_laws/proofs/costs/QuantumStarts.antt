@@ -3,17 +3,14 @@ use Rattle.std.proofs.Common.{◌≡◌, ◌⊎◌, inl, inr, ◌+◌, ◌||◌,
 use Rattle.std.proofs.lemmas.Bool.{cases_Bool, and_parts, false≢true}
 use Rattle.mh_model.specs.declared.config.Config.{Config}
 use Rattle.mh_model.specs.declared.cycle.Phase.{Phase}
-use Rattle.mh_model.specs.declared.cycle.Phase.TheVariants.{Idle, Roots, Mark, Sweep, Defrag}
+use Rattle.mh_model.specs.declared.cycle.Phase.TheVariants.{Idle}
 use Rattle.mh_model.specs.Pages.{free_pages}
 use Rattle.mh_model.specs.Collector.{Collector, is_idle, is_start_due, cycle_start, with_count, quantum_start, steps, quantum}
 use Rattle.mh_laws.proofs.costs.Quanta.{steps-idle}
 
 pub idle_is : (phase : Phase) → is_idle phase ≡ true → phase ≡ Idle
 idle_is Idle e = refl
-idle_is Roots e = absurd (false≢true e)
-idle_is Mark e = absurd (false≢true e)
-idle_is Sweep e = absurd (false≢true e)
-idle_is Defrag e = absurd (false≢true e)
+idle_is other e = absurd (false≢true e)
 
 -- a cycle starts, or one goes on, or there is none
 pub record Begins (config : Config) (c : Collector) : Type 0 where

@@ -183,10 +183,8 @@ steps-begin (suc count) left moved c trace ended = elim (cases_Bool (is_idle c.p
 
 defrag_is : (phase : Phase) → is_idle phase ≡ false → in_trace phase ≡ false → phase ≡ Defrag
 defrag_is Idle runs ended = absurd (false≢true (sym runs))
-defrag_is Roots runs ended = absurd (false≢true (sym ended))
-defrag_is Mark runs ended = absurd (false≢true (sym ended))
-defrag_is Sweep runs ended = absurd (false≢true (sym ended))
 defrag_is Defrag runs ended = refl
+defrag_is other runs ended = absurd (false≢true (sym ended))
 
 module _ (config : Config) (c : Collector) (steady : IsSteady c) where
   abbrev start : Collector

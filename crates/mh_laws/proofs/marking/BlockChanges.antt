@@ -4,7 +4,7 @@ use Rattle.std.proofs.lemmas.Bool.{cases_eq, false≢true}
 use Rattle.std.proofs.lemmas.Option.{none-some, same_Some}
 use Rattle.std.proofs.lemmas.List.{length-set}
 use Rattle.mh_model.specs.declared.cycle.Phase.{Phase}
-use Rattle.mh_model.specs.declared.cycle.Phase.TheVariants.{Idle, Roots, Mark, Sweep, Defrag}
+use Rattle.mh_model.specs.declared.cycle.Phase.TheVariants.{Roots, Mark, Sweep}
 use Rattle.mh_model.specs.declared.shape.Shape.{Shape}
 use Rattle.mh_model.specs.World.{World, births}
 use Rattle.mh_model.specs.Classes.{parts}
@@ -26,25 +26,17 @@ pub resolve-live : (table : Table Block) (place : ℕ) (block : Block) → block
 resolve-live table place block there live = ap (λ o. unwrap_or (option_and_then (λ x. x.forward) o) place) there ∙ ap (λ o. unwrap_or o place) live
 
 pub not_sweep : (phase : Phase) → in_roots_or_mark phase ≡ true → in_sweep phase ≡ true → ⊥
-not_sweep Idle m s = false≢true m
 not_sweep Roots m s = false≢true s
 not_sweep Mark m s = false≢true s
-not_sweep Sweep m s = false≢true m
-not_sweep Defrag m s = false≢true m
+not_sweep other m s = false≢true m
 
 pub no_sweep : (phase : Phase) → in_roots_or_mark phase ≡ true → in_sweep phase ≡ false
-no_sweep Idle m = refl
-no_sweep Roots m = refl
-no_sweep Mark m = refl
 no_sweep Sweep m = absurd (false≢true m)
-no_sweep Defrag m = refl
+no_sweep other m = refl
 
 pub roots_mark : (phase : Phase) → in_roots phase ≡ true → in_roots_or_mark phase ≡ true
-roots_mark Idle m = absurd (false≢true m)
 roots_mark Roots m = refl
-roots_mark Mark m = absurd (false≢true m)
-roots_mark Sweep m = absurd (false≢true m)
-roots_mark Defrag m = absurd (false≢true m)
+roots_mark other m = absurd (false≢true m)
 
 -- outside the sweep what is no forwarder is plain
 pub live_plain : (c : Collector) → in_sweep c.phase ≡ false → (q : ℕ) (x : Block) → block_at c.table q ≡ Some x → x.forward ≡ None → IsPlainAt c q x

@@ -4,7 +4,7 @@ use Rattle.std.proofs.lemmas.Bool.{cases_eq, cases_lt, false≢true, eqb-true}
 use Rattle.std.proofs.lemmas.Option.{none-some, same_Some}
 use Rattle.std.proofs.lemmas.List.{get_or-set_same, get_or-set_other, get_or_past, length-set, append_assoc}
 use Rattle.mh_model.specs.declared.cycle.Phase.{Phase}
-use Rattle.mh_model.specs.declared.cycle.Phase.TheVariants.{Idle, Roots, Mark, Sweep, Defrag}
+use Rattle.mh_model.specs.declared.cycle.Phase.TheVariants.{Roots, Mark}
 use Rattle.mh_model.specs.World.{World}
 use Rattle.mh_model.specs.Pages.{Table, block_at, with_block}
 use Rattle.mh_model.specs.Table.{Block, references_at, resolve, target_of}
@@ -19,18 +19,14 @@ use Rattle.mh_laws.proofs.marking.SameTable.{IsTurn, turned, snapshot-turned}
 use Rattle.mh_table_laws.proofs.Lists.{below_length}
 
 pub traces : (phase : Phase) → in_roots_or_mark phase ≡ true → in_trace phase ≡ true
-traces Idle m = absurd (false≢true m)
 traces Roots m = refl
 traces Mark m = refl
-traces Sweep m = absurd (false≢true m)
-traces Defrag m = absurd (false≢true m)
+traces other m = absurd (false≢true m)
 
 pub runs : (phase : Phase) → in_roots_or_mark phase ≡ true → is_idle phase ≡ false
-runs Idle m = absurd (false≢true m)
 runs Roots m = refl
 runs Mark m = refl
-runs Sweep m = absurd (false≢true m)
-runs Defrag m = absurd (false≢true m)
+runs other m = absurd (false≢true m)
 
 -- Shading ----------------------------------------------------------------------------------------
 

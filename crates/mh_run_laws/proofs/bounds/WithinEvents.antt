@@ -41,17 +41,7 @@ births-heap_effect heap who (command.New slot references numbers) = go (new_grou
     go : (group : Option Made) → (unwrap_or (option_map (with_born heap (own_slot who slot)) group) heap).next_birth ≤ heap.next_birth + 1
     go None = omega arith
     go (Some made) = omega arith
-births-heap_effect heap who (command.Get slot source field) = omega arith
-births-heap_effect heap who (command.Put slot field value) = omega arith
-births-heap_effect heap who (command.Copy slot source) = omega arith
-births-heap_effect heap who (command.Clear slot) = omega arith
-births-heap_effect heap who (command.Read slot index) = omega arith
-births-heap_effect heap who (command.Write slot index number) = omega arith
-births-heap_effect heap who (command.Same left right) = omega arith
-births-heap_effect heap who (command.Shape slot) = omega arith
-births-heap_effect heap who (command.Post board slot) = omega arith
-births-heap_effect heap who (command.Take slot board) = omega arith
-births-heap_effect heap who command.End = omega arith
+births-heap_effect heap who asked = omega arith
 
 -- a command bears one object at most
 births-mutator_step : (heap : HeapState) (who : ℕ) (command : Command) → (mutator_step heap who command).state.next_birth ≤ heap.next_birth + 1
@@ -66,16 +56,7 @@ births-mutator_step heap who command = go (refusal (heap_sight heap) who command
 new_units-few : (rules : Rules) (answer : Reply) (blocks : ℕ) → (answer ≡ reply.Done → blocks ≤ most_blocks) → new_units rules answer blocks ≤ most_blocks
 new_units-few First answer blocks few = omega arith
 new_units-few Second reply.Done blocks few = few refl
-new_units-few Second (reply.Number number) blocks few = omega arith
-new_units-few Second reply.Yes blocks few = omega arith
-new_units-few Second reply.No blocks few = omega arith
-new_units-few Second (reply.Shape shape) blocks few = omega arith
-new_units-few Second (reply.Refused refused) blocks few = omega arith
-new_units-few Second (reply.Spent units phase) blocks few = omega arith
-new_units-few Second (reply.Stat stat) blocks few = omega arith
-new_units-few Second (reply.Dump items) blocks few = omega arith
-new_units-few Second (reply.Report report) blocks few = omega arith
-new_units-few Second (reply.Left quanta) blocks few = omega arith
+new_units-few Second other blocks few = omega arith
 
 -- a command is no more units than an object has blocks
 command_units-few : (heap : HeapState) (who : ℕ) (command : Command) → command_units heap.config command (mutator_step heap who command).reply ≤ most_blocks
@@ -84,17 +65,7 @@ command_units-few heap who (command.New slot references numbers) = new_units-few
     few : (mutator_step heap who (command.New slot references numbers)).reply ≡ reply.Done → length (parts references numbers) ≤ most_blocks
     few e = let born = new-done heap who slot references numbers e in
         parts_fit.few Second references numbers (made_group-fields heap.collector.table heap.next_birth heap.collector.cycle references numbers born.made born.group)
-command_units-few heap who (command.Get slot source field) = omega arith
-command_units-few heap who (command.Put slot field value) = omega arith
-command_units-few heap who (command.Copy slot source) = omega arith
-command_units-few heap who (command.Clear slot) = omega arith
-command_units-few heap who (command.Read slot index) = omega arith
-command_units-few heap who (command.Write slot index number) = omega arith
-command_units-few heap who (command.Same left right) = omega arith
-command_units-few heap who (command.Shape slot) = omega arith
-command_units-few heap who (command.Post board slot) = omega arith
-command_units-few heap who (command.Take slot board) = omega arith
-command_units-few heap who command.End = omega arith
+command_units-few heap who asked = omega arith
 
 -- Runs -------------------------------------------------------------------------------------------
 
@@ -157,10 +128,7 @@ module _ (config : Config) where
   control-after commands quanta machine control.Start is =
       let more = quantum-more commands quanta machine is in
       record { config_is = more.config_is; births = more.births; cycles = more.cycles; counted = more.counted; letters = more.letters; units = more.units }
-  control-after commands quanta machine control.Stat is = quantum-more commands quanta machine is
-  control-after commands quanta machine control.Dump is = quantum-more commands quanta machine is
-  control-after commands quanta machine control.Left is = quantum-more commands quanta machine is
-  control-after commands quanta machine (control.Report window) is = quantum-more commands quanta machine is
+  control-after commands quanta machine asked is = quantum-more commands quanta machine is
 
   -- an event is a command and a quantum at most
   event-after : (commands quanta : ℕ) (machine : Machine) (event : Event) → IsAfter config commands quanta machine → IsAfter config (suc commands) (suc quanta) (event_step machine event).state

@@ -278,9 +278,7 @@ module _ (heap : HeapState) (keeping : IsKeeping heap) where
   refused_alike who (command.Write slot index number) = again who _ _ (ap (λ (x : Option Shape). (is_bad slot, BadSlot) ∷ (is_null x, Null) ∷ (lacks_number x index, NoField) ∷ []) (shape_view (own_slot who slot)))
   refused_alike who (command.Same left right) = refl
   refused_alike who (command.Shape slot) = again who _ _ (ap (λ (x : Option Shape). (is_bad slot, BadSlot) ∷ (is_null x, Null) ∷ []) (shape_view (own_slot who slot)))
-  refused_alike who (command.Post board slot) = refl
-  refused_alike who (command.Take slot board) = refl
-  refused_alike who command.End = refl
+  refused_alike who asked = refl
 
   pub shape-follows : (who slot : ℕ) → Follows heap who (command.Shape slot)
   unfolding heap_effect

@@ -53,22 +53,14 @@ event-still machine (event.Session who command) none =
     subst (λ (m : Machine). IsStill half.heap.collector m.heap.collector) (ap (λ due. if due then (quantum_run half).state else half) (sym none)) (record { phase = refl; cycle = refl })
 event-still machine (event.Control control.Quantum) none =
     subst (λ (m : Machine). IsStill machine.heap.collector m.heap.collector) (ap (λ by_hand. (if by_hand then quantum_run machine else says (reply.Spent 0 machine.heap.collector.phase) machine).state) (sym none)) (record { phase = refl; cycle = refl })
-event-still machine (event.Control control.Start) none = record { phase = refl; cycle = refl }
-event-still machine (event.Control control.Stat) none = record { phase = refl; cycle = refl }
-event-still machine (event.Control control.Dump) none = record { phase = refl; cycle = refl }
-event-still machine (event.Control control.Left) none = record { phase = refl; cycle = refl }
-event-still machine (event.Control (control.Report window)) none = record { phase = refl; cycle = refl }
+event-still machine (event.Control asked) none = record { phase = refl; cycle = refl }
 
 -- and one with a quantum what that makes of it
 pub event-quantum : (machine : Machine) (e : Event) → has_quantum machine e ≡ true → (event_step machine e).state.heap.collector ≡ (quantum (half_step machine e).heap.config (half_step machine e).heap.collector).collector
 unfolding event_step control_step quantum_run
 event-quantum machine (event.Session who command) due = let half : Machine = (command_step machine who command).state in ap (λ test. (if test then (quantum_run half).state else half).heap.collector) due
 event-quantum machine (event.Control control.Quantum) due = ap (λ test. (if test then quantum_run machine else says (reply.Spent 0 machine.heap.collector.phase) machine).state.heap.collector) due
-event-quantum machine (event.Control control.Start) due = absurd (false≢true due)
-event-quantum machine (event.Control control.Stat) due = absurd (false≢true due)
-event-quantum machine (event.Control control.Dump) due = absurd (false≢true due)
-event-quantum machine (event.Control control.Left) due = absurd (false≢true due)
-event-quantum machine (event.Control (control.Report window)) due = absurd (false≢true due)
+event-quantum machine (event.Control asked) due = absurd (false≢true due)
 
 -- Behind a collector -----------------------------------------------------------------------------
 

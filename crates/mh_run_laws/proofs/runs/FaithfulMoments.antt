@@ -85,10 +85,7 @@ module _ (follow : (heap : HeapState) → IsKeeping heap → (who : ℕ) (comman
       go true = agrees-quantum_run moment.snapshot moment.world moment.machine faithful.keeps faithful.agrees
       go false = faithful.agrees
   next-agrees moment (event.Control control.Start) faithful = asked-agrees moment.machine.heap moment.world faithful.agrees
-  next-agrees moment (event.Control control.Stat) faithful = faithful.agrees
-  next-agrees moment (event.Control control.Dump) faithful = faithful.agrees
-  next-agrees moment (event.Control control.Left) faithful = faithful.agrees
-  next-agrees moment (event.Control (control.Report window)) faithful = faithful.agrees
+  next-agrees moment (event.Control asked) faithful = faithful.agrees
 
   faithful-after : (events : List Event) (moment : Moment) → IsFaithful moment → IsFaithful (moment_after moment events)
   unfolding moment_after

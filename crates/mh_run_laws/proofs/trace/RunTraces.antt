@@ -112,10 +112,7 @@ module _ (config : Config) (some : 0 < config.every) where
       go true e = let z = eqb-true machine.heap.config.every 0 e in absurd (omega (arith, z, ap (λ (c : Config). c.every) has.config_is))
       go false e = has
   control-rounds machine control.Start has = record { config_is = has.config_is; turns = has.turns; all = has.all; letters = has.letters }
-  control-rounds machine control.Stat has = has
-  control-rounds machine control.Dump has = has
-  control-rounds machine control.Left has = has
-  control-rounds machine (control.Report window) has = has
+  control-rounds machine asked has = has
 
   event-rounds : (machine : Machine) (event : Event) → HasRounds config machine → HasRounds config (event_step machine event).state
   unfolding event_step

@@ -202,10 +202,7 @@ module _ (view world : World) (agrees : Agrees view world) where
       with_change-agrees view world agrees (own_slot who slot) (with_reference field (slot_at view (own_slot who value))) (with_reference field (slot_at world (own_slot who value))) (λ object. ap (λ n. with_reference field n object) same) (put-keeps (own_slot who value) field)
   effect-agrees who (command.Copy slot source) = with_slot-agrees view world agrees (own_slot who slot) _ _ (slot_at-same view world agrees (own_slot who source)) (slot-reached (own_slot who source))
   effect-agrees who (command.Clear slot) = with_slot-agrees view world agrees (own_slot who slot) None None refl (λ birth e. absurd (none-some birth e))
-  effect-agrees who (command.Read slot index) = agrees
   effect-agrees who (command.Write slot index number) = with_change-agrees view world agrees (own_slot who slot) (with_number index number) (with_number index number) (λ object. refl) (λ object field target e. inl e)
-  effect-agrees who (command.Same left right) = agrees
-  effect-agrees who (command.Shape slot) = agrees
   effect-agrees who (command.Post board slot) = with_slot-agrees view world agrees (board_slot board) _ _ (slot_at-same view world agrees (own_slot who slot)) (slot-reached (own_slot who slot))
   effect-agrees who (command.Take slot board) = with_slot-agrees view world agrees (own_slot who slot) _ _ (slot_at-same view world agrees (board_slot board)) (slot-reached (board_slot board))
   effect-agrees who command.End = let cleared = cleared-agrees 16 (own_slot who 0) view world agrees in record {
@@ -216,6 +213,7 @@ module _ (view world : World) (agrees : Agrees view world) where
     objects = cleared.objects;
     reached = cleared.reached;
   }
+  effect-agrees who other = agrees
 
   effect-reply : (who : ℕ) (command : Command) → (effect view who command).reply ≡ (effect world who command).reply
   effect-reply who (command.New slot references numbers) = refl
@@ -227,9 +225,7 @@ module _ (view world : World) (agrees : Agrees view world) where
   effect-reply who (command.Write slot index number) = refl
   effect-reply who (command.Same left right) = ap₂ (λ l r. yes_or_no (names_same l r)) (slot_at-same view world agrees (own_slot who left)) (slot_at-same view world agrees (own_slot who right))
   effect-reply who (command.Shape slot) = ap (λ o. shape_reply (option_map shape_of o)) (object_in-same view world agrees (own_slot who slot))
-  effect-reply who (command.Post board slot) = refl
-  effect-reply who (command.Take slot board) = refl
-  effect-reply who command.End = refl
+  effect-reply who asked = refl
 
   -- A command that may be refused for want of a place keeps agreement
   pub heap_step-agrees : (is_full : ℕ → ℕ → Bool) (who : ℕ) (command : Command) → Agrees (heap_step is_full view who command).state (heap_step is_full world who command).state

@@ -8,7 +8,7 @@ use Rattle.mh_model.specs.declared.command.Command.TheVariants as command
 use Rattle.mh_model.specs.declared.command.Event.TheVariants as event
 use Rattle.mh_model.specs.declared.shape.Shape.{Shape}
 use Rattle.mh_model.specs.declared.reply.Refusal.{Refusal}
-use Rattle.mh_model.specs.declared.reply.Refusal.TheVariants.{BadSlot, Null, NoField, TooLarge, HeapFull, Ended, TooManySessions}
+use Rattle.mh_model.specs.declared.reply.Refusal.TheVariants.{BadSlot, TooLarge, HeapFull, Ended, TooManySessions}
 use Rattle.mh_model.specs.declared.reply.Reply.TheVariants as reply
 use Rattle.mh_model.specs.World.{World, most_fields, is_bad, first_refusal, tests, refusal, yes_or_no, names_same, shape_of, shape_reply, object_in, slot_at, own_slot, effect, says, unless_refused, sight_of, heap_step, never_full, world_step}
 use Rattle.mh_model.specs.Paths.{Agrees}
@@ -32,17 +32,7 @@ refusal-full : (is_full : ℕ → ℕ → Bool) (world : World) (who : ℕ) (com
     → (refusal (sight_of is_full world) who command ≡ Some HeapFull) ⊎ (refusal (sight_of is_full world) who command ≡ refusal (sight_of never_full world) who command)
 refusal-full is_full world who (command.New slot references numbers) =
     first_refusal-last ((nat_le 8 who, TooManySessions) ∷ (get_or world.ended who false, Ended) ∷ (is_bad slot, BadSlot) ∷ (nat_lt (most_fields world.config) (references + numbers), TooLarge) ∷ []) (is_full references numbers) HeapFull
-refusal-full is_full world who (command.Get slot source field) = inr refl
-refusal-full is_full world who (command.Put slot field value) = inr refl
-refusal-full is_full world who (command.Copy slot source) = inr refl
-refusal-full is_full world who (command.Clear slot) = inr refl
-refusal-full is_full world who (command.Read slot index) = inr refl
-refusal-full is_full world who (command.Write slot index number) = inr refl
-refusal-full is_full world who (command.Same left right) = inr refl
-refusal-full is_full world who (command.Shape slot) = inr refl
-refusal-full is_full world who (command.Post board slot) = inr refl
-refusal-full is_full world who (command.Take slot board) = inr refl
-refusal-full is_full world who command.End = inr refl
+refusal-full is_full world who asked = inr refl
 
 heap_step-full : (is_full : ℕ → ℕ → Bool) (world : World) (who : ℕ) (command : Command)
     → (heap_step is_full world who command ≡ says (reply.Refused HeapFull) world) ⊎ (heap_step is_full world who command ≡ world_step world who command)
@@ -78,17 +68,7 @@ first_refusal-others (test ∷ all) others refused e =
 
 tests-others : (world : World) (who : ℕ) (command : Command) → are_others ((nat_le 8 who, TooManySessions) ∷ (get_or world.ended who false, Ended) ∷ tests (sight_of never_full world) who command) ≡ true
 tests-others world who (command.New slot references numbers) = refl
-tests-others world who (command.Get slot source field) = refl
-tests-others world who (command.Put slot field value) = refl
-tests-others world who (command.Copy slot source) = refl
-tests-others world who (command.Clear slot) = refl
-tests-others world who (command.Read slot index) = refl
-tests-others world who (command.Write slot index number) = refl
-tests-others world who (command.Same left right) = refl
-tests-others world who (command.Shape slot) = refl
-tests-others world who (command.Post board slot) = refl
-tests-others world who (command.Take slot board) = refl
-tests-others world who command.End = refl
+tests-others world who asked = refl
 
 pub yes_or_no-other : (answer : Bool) → is_heap_full (yes_or_no answer) ≡ false
 yes_or_no-other true = refl
@@ -108,18 +88,11 @@ effect-other world who (command.Read slot index) = refl
 effect-other world who (command.Write slot index number) = refl
 effect-other world who (command.Same left right) = yes_or_no-other (names_same (slot_at world (own_slot who left)) (slot_at world (own_slot who right)))
 effect-other world who (command.Shape slot) = shape_reply-other (option_map shape_of (object_in world (own_slot who slot)))
-effect-other world who (command.Post board slot) = refl
-effect-other world who (command.Take slot board) = refl
-effect-other world who command.End = refl
+effect-other world who asked = refl
 
 refused-other : (refused : Refusal) → is_fullness refused ≡ false → is_heap_full (reply.Refused refused) ≡ false
-refused-other BadSlot e = refl
-refused-other Null e = refl
-refused-other NoField e = refl
-refused-other TooLarge e = refl
 refused-other HeapFull e = e
-refused-other Ended e = refl
-refused-other TooManySessions e = refl
+refused-other other e = refl
 
 -- The ever-growing world never answers that the heap is full
 pub world_step-never_full : (world : World) (who : ℕ) (command : Command) → is_heap_full (world_step world who command).reply ≡ false

@@ -6,7 +6,7 @@ use Rattle.mh_model.specs.Pages.{Page, Table, page_at, free_pages}
 use Rattle.mh_model.specs.Table.{Block}
 use Rattle.mh_model.specs.LiveParts.{page_count, is_plain}
 use Rattle.mh_sizing_laws.specs.Anchors.{staying_in, is_anchored, anchor_count, anchor_blocks, anchored, staying}
-use Rattle.mh_sizing_laws.proofs.openings.Rooms.{if_free}
+use Rattle.mh_laws.proofs.rooms.Rooms.{if_free}
 use Rattle.mh_sizing_laws.proofs.filling.Weights.{weights}
 use Rattle.mh_sizing_laws.proofs.pages_left.SweptPages.{HavePlain, IsUsedBeside}
 use Rattle.mh_sizing_laws.proofs.anchors.AnchoredPages.{AnchorsStand, stands-plain}

@@ -21,8 +21,9 @@ use Rattle.mh_laws.proofs.costs.Quanta.{steps-stop, steps-go}
 use Rattle.mh_laws.proofs.costs.QuantumStarts.{begins, quantum-rests}
 use Rattle.mh_laws.proofs.snapshots.CycleSteps.{continues-collector_step, snapshot-counted}
 use Rattle.mh_sizing_laws.specs.Anchors.{anchored, staying, ReachesThoseThatStay}
-use Rattle.mh_sizing_laws.proofs.triggers.Quanta.{table-phase_after}
-use Rattle.mh_sizing_laws.proofs.pages_left.SweptPages.{HavePlain, IsUsedBeside, HasBlocksBeside, move-free, step-beside, quiet-beside}
+use Rattle.mh_laws.proofs.rooms.Quanta.{table-phase_after}
+use Rattle.mh_laws.proofs.rooms.Moves.{move-free}
+use Rattle.mh_sizing_laws.proofs.pages_left.SweptPages.{HavePlain, IsUsedBeside, HasBlocksBeside, step-beside, quiet-beside}
 use Rattle.mh_sizing_laws.proofs.reached.ReachedQuanta.{started-keeps}
 use Rattle.mh_sizing_laws.proofs.anchors.GrownPages.{with_shade-grows, mark_first-grows}
 use Rattle.mh_sizing_laws.proofs.anchors.AnchoredPages.{AreMarked, AnchorsStand, anchors-grow, anchors-swept, anchors-moved}

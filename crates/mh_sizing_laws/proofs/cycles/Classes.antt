@@ -19,11 +19,12 @@ use Rattle.mh_table_laws.proofs.tables.PageSlots.{judged_page-is}
 use Rattle.mh_laws.proofs.costs.Quanta.{steps-stop, steps-go}
 use Rattle.mh_laws.proofs.moving.NextMove.{next_move-is}
 use Rattle.mh_model.specs.Openings.{class_parts, asked_parts}
-use Rattle.mh_sizing_laws.proofs.openings.Rooms.{HasSameRoom}
-use Rattle.mh_sizing_laws.proofs.openings.MadeParts.{one_of-same, first-made, class_parts-cons}
-use Rattle.mh_sizing_laws.proofs.openings.KeptRoom.{linked_parts-room, with_shade-room, mark_first-room, with_root-room, heap_effect-room}
+use Rattle.mh_laws.proofs.rooms.Rooms.{HasSameRoom}
+use Rattle.mh_laws.proofs.rooms.FirstParts.{first-made}
+use Rattle.mh_sizing_laws.proofs.openings.MadeParts.{one_of-same, class_parts-cons}
+use Rattle.mh_laws.proofs.rooms.KeptRoom.{linked_parts-room, with_shade-room, mark_first-room, with_root-room, heap_effect-room}
 use Rattle.mh_sizing_laws.proofs.openings.Intervals.{new-allowed}
-use Rattle.mh_sizing_laws.proofs.triggers.Quanta.{table-phase_after}
+use Rattle.mh_laws.proofs.rooms.Quanta.{table-phase_after}
 
 module _ (Fits : ℕ → Type 0) where
   -- each page in use has a class that fits

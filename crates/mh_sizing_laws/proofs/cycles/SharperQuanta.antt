@@ -23,7 +23,7 @@ use Rattle.mh_laws.proofs.costs.QuantumStarts.{begins, quantum-rests}
 use Rattle.mh_model.specs.Openings.{asked_parts}
 use Rattle.mh_model.specs.CycleUnits.{slot_units, page_units, marking_units}
 use Rattle.mh_model.specs.Limits.{quantum_overhead, root_slots}
-use Rattle.mh_sizing_laws.proofs.openings.Rooms.{LeavesAlone}
+use Rattle.mh_laws.proofs.rooms.Rooms.{LeavesAlone}
 use Rattle.mh_sizing_laws.proofs.cycles.SparsePages.{AreSparse, sparse-alone, IsAtSlot, at_slot-inside, at_slot-kept, page_left, page_left-alone, IsSwept}
 use Rattle.mh_sizing_laws.proofs.cycles.Classes.{HasClasses, PartsFit, command-classes, steps-classes, FitsClass}
 use Rattle.mh_sizing_laws.proofs.cycles.SharperSteps.{sharp_left, FitsStage, steps-sharp}
@@ -60,10 +60,7 @@ pub record IsSharp (config : Config) (marked wide dear : ℕ) (collector : Colle
 
 pub idle-sharp : (wide dear : ℕ) (phase : Phase) (collector : Collector) → is_idle phase ≡ true → sharp_left wide dear phase collector ≡ 0
 idle-sharp wide dear Idle collector idle = refl
-idle-sharp wide dear Roots collector idle = absurd (false≢true idle)
-idle-sharp wide dear Mark collector idle = absurd (false≢true idle)
-idle-sharp wide dear Sweep collector idle = absurd (false≢true idle)
-idle-sharp wide dear Defrag collector idle = absurd (false≢true idle)
+idle-sharp wide dear other collector idle = absurd (false≢true idle)
 
 -- the count of quanta and the asking make no difference to what is left
 module _ (wide dear : ℕ) (collector : Collector) (quanta : ℕ) (is_asked : Bool) where
@@ -72,27 +69,18 @@ module _ (wide dear : ℕ) (collector : Collector) (quanta : ℕ) (is_asked : Bo
 
   stage-recounted : (phase : Phase) → StageOf phase collector → StageOf phase recounted
   stage-recounted Idle stage = stage
-  stage-recounted Roots stage = stage
-  stage-recounted Mark stage = stage
-  stage-recounted Sweep stage = stage
-  stage-recounted Defrag stage = stage
+  stage-recounted other stage = stage
 
   pub under-recounted : IsUnderway collector → IsUnderway recounted
   under-recounted under = record { some_page = under.some_page; sound = under.sound; stage = stage-recounted collector.phase under.stage }
 
   pub fits-recounted : (phase : Phase) → FitsStage wide dear phase collector → FitsStage wide dear phase recounted
   fits-recounted Idle fits = fits
-  fits-recounted Roots fits = fits
-  fits-recounted Mark fits = fits
-  fits-recounted Sweep fits = fits
-  fits-recounted Defrag fits = fits
+  fits-recounted other fits = fits
 
   pub sharp-recounted : (phase : Phase) → sharp_left wide dear phase recounted ≡ sharp_left wide dear phase collector
   sharp-recounted Idle = refl
-  sharp-recounted Roots = refl
-  sharp-recounted Mark = refl
-  sharp-recounted Sweep = refl
-  sharp-recounted Defrag = refl
+  sharp-recounted other = refl
 
 pub sharp-asked : (config : Config) (marked wide dear : ℕ) (collector : Collector) → IsSharp config marked wide dear collector → IsSharp config marked wide dear (record collector { is_asked = true })
 sharp-asked config marked wide dear collector is = record {
@@ -147,14 +135,12 @@ module _ (wide dear : ℕ) (old new : Collector) {made : ℕ} (course : IsOnCour
   kept-alone at_slot = at_slot-kept old.table new.table old.cursor slots (course.slots slots) carried.carries.classes at_slot
 
   fits-alone : (phase : Phase) → FitsStage wide dear phase old → FitsStage wide dear phase new
-  fits-alone Idle fits = fits
-  fits-alone Roots fits = fits
-  fits-alone Mark fits = fits
   fits-alone Sweep fits = subst (IsSwept new.table) (sym course.cursor) (record { sparse = sparse-alone (page_number old.cursor) old.table new.table alone fits.sparse; at_slot = kept-alone fits.at_slot })
   fits-alone Defrag (sparse, at_slot) = (
     subst (λ n. AreSparse n new.table) (sym course.pages) (sparse-alone (length old.table) old.table new.table alone sparse),
     subst (IsAtSlot new.table) (sym course.cursor) (kept-alone at_slot),
   )
+  fits-alone other fits = fits
 
   page-alone : IsAtSlot old.table old.cursor → page_left (slot_number old.cursor) (page_at new.table (page_number old.cursor)) ≤ page_left (slot_number old.cursor) (page_at old.table (page_number old.cursor))
   page-alone at_slot = page_left-alone old.table new.table (page_number old.cursor) (slot_number old.cursor) (at_slot-inside old.table old.cursor slots at_slot) alone

@@ -23,9 +23,10 @@ use Rattle.mh_model.specs.Intervals.{moments, intervals, has_ended, cycle_ends, 
 use Rattle.mh_model.specs.CycleUnits.{marking_units, cycle_starts, most_slots, most_moves, quanta_for}
 use Rattle.mh_model.specs.Limits.{quantum_overhead}
 use Rattle.mh_sizing_laws.specs.Cycles.{RoomForMarkingSuffices}
-use Rattle.mh_sizing_laws.proofs.openings.Rooms.{LeavesAlone}
+use Rattle.mh_laws.proofs.rooms.Rooms.{LeavesAlone}
 use Rattle.mh_sizing_laws.proofs.openings.MadeParts.{pages_of}
-use Rattle.mh_sizing_laws.proofs.openings.Intervals.{asked_of, asked-cons, quantum-event, since-half}
+use Rattle.mh_laws.proofs.rooms.QuietEvents.{quantum-event}
+use Rattle.mh_sizing_laws.proofs.openings.Intervals.{asked_of, asked-cons, since-half}
 use Rattle.mh_sizing_laws.proofs.triggers.Commands.{event-served}
 use Rattle.mh_sizing_laws.proofs.triggers.SizedRuns.{run-collector, ends-later, end-here, IsShort, HasHadFewer, LeavesEnough, opens-event, event-short, IsReady, start-room, half-stays, ready-next, ready-first}
 use Rattle.mh_sizing_laws.proofs.cycles.Classes.{PartsFit, FitsClass}
@@ -41,10 +42,7 @@ unfolding event_step control_step
 quiet-collector machine (event.Session who command) quiet = inl (ap (λ due. (if due then (quantum_run (command_step machine who command).state).state else (command_step machine who command).state).heap.collector) quiet)
 quiet-collector machine (event.Control control.Quantum) quiet = inl (ap (λ asked. (if asked then quantum_run machine else says (reply.Spent 0 machine.heap.collector.phase) machine).state.heap.collector) quiet)
 quiet-collector machine (event.Control control.Start) quiet = inr refl
-quiet-collector machine (event.Control control.Stat) quiet = inl refl
-quiet-collector machine (event.Control control.Dump) quiet = inl refl
-quiet-collector machine (event.Control control.Left) quiet = inl refl
-quiet-collector machine (event.Control (control.Report window)) quiet = inl refl
+quiet-collector machine (event.Control asked) quiet = inl refl
 
 module _ (config : Config) (marked wide dear : ℕ) (large : quantum_overhead < config.quantum) (some_wide : 1 ≤ wide) (some_dear : 1 ≤ dear) where
   -- the most quanta of a cycle

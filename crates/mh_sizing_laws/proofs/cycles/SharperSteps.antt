@@ -7,17 +7,17 @@ use Rattle.mh_model.specs.declared.cycle.Phase.{Phase}
 use Rattle.mh_model.specs.declared.cycle.Phase.TheVariants.{Idle, Roots, Mark, Sweep, Defrag}
 use Rattle.mh_model.specs.Pages.{Page, Table, page_number, slot_number, page_at, block_in, block_at, with_taken, HaveTheirSlots}
 use Rattle.mh_model.specs.Table.{Block}
-use Rattle.mh_model.specs.Collector.{Collector, Spending, Move, marking_of, next_page, next_place, is_last_slot, if_flagged, flagged_page, next_move, moved_table, move_cost, with_move, with_phase, after_mark, is_past, cycle_end, step_in, phase_after, collector_step, cost_in, step_cost, is_moving_in, is_moving, is_idle, steps}
+use Rattle.mh_model.specs.Collector.{Collector, Spending, Move, marking_of, next_page, next_place, is_last_slot, if_flagged, flagged_page, next_move, moved_table, move_cost, with_move, with_phase, after_mark, is_past, cycle_end, step_in, phase_after, collector_step, cost_in, step_cost, is_moving, is_idle, steps}
 use Rattle.mh_model.specs.CycleBounds.{weight, in_units, steps_left, units_left, IsUnderway}
 use Rattle.mh_model.specs.Limits.{root_slots}
 use Rattle.mh_table_laws.proofs.marking.GreyList.{class-with_block, class-with_taken}
 use Rattle.mh_table_laws.proofs.placing.Places.{shaped-slots, least_dense_place-page, block_at-with_taken_other}
-use Rattle.mh_laws.proofs.bounds.CycleBounds.{charge}
+use Rattle.mh_laws.proofs.bounds.CycleBounds.{charge, step-charged}
 use Rattle.mh_laws.proofs.bounds.WorkLeft.{IsPaid, collector_step-paid}
 use Rattle.mh_laws.proofs.commands.LeftUnchanged.{step_in-keeps, with_move-keeps, collector_step-keeps}
 use Rattle.mh_laws.proofs.costs.Quanta.{steps-stop, steps-go}
 use Rattle.mh_laws.proofs.moving.NextMove.{next_move-is}
-use Rattle.mh_sizing_laws.proofs.openings.Rooms.{LeavesAlone, alone-same, alone-then, alone-taken, same_room-with_block}
+use Rattle.mh_laws.proofs.rooms.Rooms.{LeavesAlone, alone-same, alone-then, alone-taken, same_room-with_block}
 use Rattle.mh_sizing_laws.proofs.cycles.Classes.{HasClasses, step_in-classes, collector_step-classes, FitsClass, AreNarrow, narrow}
 use Rattle.mh_sizing_laws.proofs.cycles.SparsePages.{AreSparse, sparse-alone, IsAtSlot, at_slot-inside, KeepsClasses, at_slot-next, page_left, HasSlot, page_left-some, page_left-few, page_left-alone, page_left-next, page_left-moved, IsSwept, swept-next}
 
@@ -123,11 +123,9 @@ module _ (wide dear : ℕ) where
 
   -- the pages that were swept are sparse if flagged
   abbrev pub FitsStage : Phase → Collector → Type 0
-  FitsStage Idle collector = Unit {0}
-  FitsStage Roots collector = Unit {0}
-  FitsStage Mark collector = Unit {0}
   FitsStage Sweep collector = IsSwept collector.table collector.cursor
   FitsStage Defrag collector = AreSparse (length collector.table) collector.table × IsAtSlot collector.table collector.cursor
+  FitsStage other collector = Unit {0}
 
   -- beside the older measure, which has 384 units for a page after marking
   abbrev pub IsBeside : Phase → Collector → Type 0
@@ -308,26 +306,6 @@ module _ (wide dear : ℕ) where
     pub paid : sharp_left after.collector.phase after.collector + after.units ≤ sharp_left old.phase old + charge has_moved
 
 -- Steps of a quantum -----------------------------------------------------------------------------
-
-charged : (phase : Phase) (collector : Collector) (has_moved : Bool) → cost_in phase collector has_moved + charge (has_moved || is_moving_in phase collector) ≡ cost_in phase collector true + charge has_moved
-charged Idle collector true = refl
-charged Idle collector false = refl
-charged Roots collector true = refl
-charged Roots collector false = refl
-charged Mark collector true = refl
-charged Mark collector false = refl
-charged Sweep collector true = refl
-charged Sweep collector false = refl
-charged Defrag collector true = refl
-charged Defrag collector false = go (next_move collector.table collector.cursor)
-  where
-    go : (move : Option Move) → move_cost false move + charge (is_some move) ≡ move_cost true move + root_slots
-    go None = refl
-    go (Some move) = omega arith
-
-pub step-charged : (collector : Collector) (has_moved : Bool) → step_cost collector has_moved + charge (has_moved || is_moving collector) ≡ cost_in collector.phase collector true + charge has_moved
-unfolding step_cost
-step-charged collector has_moved = charged collector.phase collector has_moved
 
 pub steps-sharp : (wide dear more left : ℕ) (has_moved : Bool) (collector : Collector) → 1 ≤ wide → 1 ≤ dear → IsUnderway collector → HaveTheirSlots collector.table → HasClasses (FitsClass wide dear) collector.table → FitsStage wide dear collector.phase collector
     → SpendsSharply wide dear has_moved collector (steps more left has_moved collector)

@@ -12,7 +12,7 @@ use Rattle.mh_model.specs.Collector.{survivor, is_last_slot, judged_page, swept_
 use Rattle.mh_table_laws.proofs.Lists.{below_length}
 use Rattle.mh_table_laws.proofs.tables.PageSlots.{slots_in-class_size}
 use Rattle.mh_sizing_laws.proofs.cycles.Classes.{AreNarrow}
-use Rattle.mh_sizing_laws.proofs.openings.Rooms.{LeavesAlone}
+use Rattle.mh_laws.proofs.rooms.Rooms.{LeavesAlone}
 
 -- Blocks from a slot on --------------------------------------------------------------------------
 

@@ -7,7 +7,7 @@ use Rattle.mh_model.specs.Table.{Block, with_block_change, linked_block, linked_
 use Rattle.mh_model.specs.Collector.{Collector, Marking, mark_first, marking_of, with_shade}
 use Rattle.mh_model.specs.Mutator.{HeapState, with_root, heap_effect}
 use Rattle.mh_laws.proofs.commands.EachCommand.{IsKeptByWrites, shade-each, mark_first-each, over_tables, with_root-each, heap_effect-each}
-use Rattle.mh_sizing_laws.proofs.openings.KeptRoom.{makes_none, makes_none-new}
+use Rattle.mh_laws.proofs.rooms.KeptRoom.{makes_none, makes_none-new}
 use Rattle.mh_sizing_laws.proofs.filling.Ages.{ages, ages-change, ages-exchange}
 
 pub linked_parts-ages : (all places : List ℕ) (parts : List Part) (table : Table Block) → ages (linked_parts all table places parts) ≡ ages table

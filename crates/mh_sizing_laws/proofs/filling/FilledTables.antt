@@ -16,7 +16,8 @@ use Rattle.mh_model.specs.Openings.{class_parts, asked_parts}
 use Rattle.mh_table_laws.proofs.TableMapLemmas.{with_taken-table_map}
 use Rattle.mh_table_laws.proofs.tables.PageSlots.{class_of-class_size}
 use Rattle.mh_table_laws.proofs.PageMapLemmas.{least_place-table_map, have_their_slots}
-use Rattle.mh_sizing_laws.proofs.openings.MadeParts.{one_of, one_of-same, first-made, taken-slots, class_parts-cons}
+use Rattle.mh_laws.proofs.rooms.FirstParts.{first-made, taken-slots}
+use Rattle.mh_sizing_laws.proofs.openings.MadeParts.{one_of, one_of-same, class_parts-cons}
 use Rattle.mh_sizing_laws.proofs.openings.Intervals.{new-allowed}
 use Rattle.mh_sizing_laws.proofs.filling.Fillings.{Kind, Allows, Fills, fills-more, fills-own, fills-other}
 use Rattle.mh_sizing_laws.proofs.filling.Ages.{birth_of, ages}

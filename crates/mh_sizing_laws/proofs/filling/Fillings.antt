@@ -7,7 +7,7 @@ use Rattle.mh_model.specs.Pages.{Page, Table, page_number, slot_number, page_at,
 use Rattle.mh_table_laws.proofs.Lists.{below_length}
 use Rattle.mh_table_laws.proofs.placing.Places.{shaped-slots, least_place-free, block_in-page_for}
 use Rattle.mh_table_laws.proofs.tables.PageSlots.{slots_in-class_size, page_for-slots}
-use Rattle.mh_sizing_laws.proofs.openings.Rooms.{empties}
+use Rattle.mh_laws.proofs.rooms.Rooms.{empties}
 use Rattle.mh_sizing_laws.proofs.filling.Weights.{weights, weights-set, weigh, weigh-own, weigh-other}
 use Rattle.mh_sizing_laws.proofs.filling.Fronts.{IsFront, front-least, taken-front, put-at, put-other, other-front}
 

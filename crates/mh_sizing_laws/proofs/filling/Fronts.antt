@@ -6,7 +6,7 @@ use Rattle.std.proofs.lemmas.Option.{none-some}
 use Rattle.mh_model.specs.Pages.{Page, Table, page_number, slot_number, page_at, is_dense, is_sparse, empty_slot, open_slot, fresh_slot, least_place, page_with, page_for, with_taken}
 use Rattle.mh_table_laws.specs.Placing.{IsFound, GivesNone}
 use Rattle.mh_table_laws.proofs.placing.Places.{IsShaped, open_slot-is, least_place-least}
-use Rattle.mh_sizing_laws.proofs.openings.Rooms.{empties}
+use Rattle.mh_laws.proofs.rooms.Rooms.{empties}
 
 not-flagged : (flag : Bool) → flag ≡ false → not flag ≡ true
 not-flagged true e = absurd (true≢false e)

@@ -3,7 +3,7 @@ use Rattle.std.proofs.Common.{◌≡◌, ℕ, zero, suc, ◌+◌, ◌<◌, ◌�
 use Rattle.std.proofs.lemmas.Bool.{lt-ltb, ltb-false, false≢true}
 use Rattle.mh_model.specs.Classes.{slots_in}
 use Rattle.mh_model.specs.Pages.{Page, page_with, page_for, block_count}
-use Rattle.mh_sizing_laws.proofs.openings.Rooms.{empties}
+use Rattle.mh_laws.proofs.rooms.Rooms.{empties}
 use Rattle.mh_sizing_laws.proofs.filling.Fillings.{Kind, IsPut, Allows}
 use Rattle.mh_sizing_laws.proofs.filling.Slots.{youngs, olds, olds-youngs, youngs-put, olds-put, empties-put, blocks-empties}
 

@@ -10,8 +10,9 @@ use Rattle.mh_model.specs.Table.{Block}
 use Rattle.mh_table_laws.proofs.Lists.{below_length}
 use Rattle.mh_table_laws.proofs.TableMapLemmas.{length-table_map, page_at-table_map}
 use Rattle.mh_laws.proofs.commands.LeftUnchanged.{event-keeps, machine_after-pages}
-use Rattle.mh_sizing_laws.proofs.openings.Intervals.{half-count, event-quiet, quiet-event}
-use Rattle.mh_sizing_laws.proofs.openings.Rooms.{empties}
+use Rattle.mh_laws.proofs.rooms.QuietEvents.{quiet-event}
+use Rattle.mh_sizing_laws.proofs.openings.Intervals.{half-count, event-quiet}
+use Rattle.mh_laws.proofs.rooms.Rooms.{empties}
 use Rattle.mh_sizing_laws.proofs.pages_left.BlocksInUse.{run-blocks}
 use Rattle.mh_sizing_laws.specs.Filling.{IsPartlyNew, BirthsFillOnePage}
 use Rattle.mh_sizing_laws.proofs.filling.Weights.{weights, weigh, weigh-own, weigh-less}

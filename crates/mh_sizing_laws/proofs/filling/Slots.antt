@@ -3,7 +3,7 @@ use Rattle.std.proofs.Common.{◌≡◌, ℕ, zero, suc, ◌+◌, ◌<◌, ◌�
 use Rattle.std.proofs.lemmas.Bool.{le-leb}
 use Rattle.std.proofs.lemmas.Option.{none-some}
 use Rattle.mh_model.specs.Pages.{block_count}
-use Rattle.mh_sizing_laws.proofs.openings.Rooms.{empties}
+use Rattle.mh_laws.proofs.rooms.Rooms.{empties}
 
 module _ (from : ℕ) where
   -- how many of these blocks were born from this birth on

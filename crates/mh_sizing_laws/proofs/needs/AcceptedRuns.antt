@@ -31,7 +31,7 @@ use Rattle.mh_run_laws.proofs.worlds.FullAlone.{new-alone, full-alone}
 use Rattle.mh_sizing_laws.specs.Needs.{StaysInRoom}
 use Rattle.mh_sizing_laws.proofs.triggers.Commands.{full_is}
 use Rattle.mh_sizing_laws.proofs.needs.BesideRuns.{NoneIsFull, IsBeside, first-beside, next-beside}
-use Rattle.mh_sizing_laws.proofs.needs.FullWorlds.{unrefused_by_the_world}
+use Rattle.mh_run_laws.proofs.worlds.FullWorlds.{unrefused_by_the_world}
 use Rattle.mh_sizing_laws.proofs.needs.Accepted.{accepted, accepted_command, accepted_event, accepted_in, one-unit, refused-step}
 
 -- Full heaps -------------------------------------------------------------------------------------

@@ -41,11 +41,7 @@ after-units machine (event.Control control.Quantum) = go (machine.heap.config.ev
     go : (test : Bool) → (if test then quantum_run machine else says (reply.Spent 0 machine.heap.collector.phase) machine).state.units ≡ (if test then 0 else machine.units)
     go true = refl
     go false = refl
-after-units machine (event.Control control.Start) = refl
-after-units machine (event.Control control.Stat) = refl
-after-units machine (event.Control control.Dump) = refl
-after-units machine (event.Control control.Left) = refl
-after-units machine (event.Control (control.Report window)) = refl
+after-units machine (event.Control asked) = refl
 
 pub after-run : (run : WorldRun) (event : Event) → (next_run run event).units ≡ (if runs_quantum run event then 0 else (half_run run event).units)
 after-run run event = go (runs_quantum run event)
@@ -110,11 +106,7 @@ module _ (config : Config) where
   same-quantum moment run (event.Session who command) beside none =
       ap₂ (λ (c : Config) n. not (c.every == 0) && nat_le c.every n) (half-config moment run (event.Session who command) beside) (half-units moment run (event.Session who command) beside none)
   same-quantum moment run (event.Control control.Quantum) beside none = ap (λ (c : Config). c.every == 0) (beside.stays.config_is ∙ sym beside.config_is)
-  same-quantum moment run (event.Control control.Start) beside none = refl
-  same-quantum moment run (event.Control control.Stat) beside none = refl
-  same-quantum moment run (event.Control control.Dump) beside none = refl
-  same-quantum moment run (event.Control control.Left) beside none = refl
-  same-quantum moment run (event.Control (control.Report window)) beside none = refl
+  same-quantum moment run (event.Control asked) beside none = refl
 
   world-beside : (moment : Moment) (run : WorldRun) (event : Event) → IsBeside moment run → is_heap_full (event_step moment.machine event).reply ≡ false
       → world_beside_event moment.world event (event_step moment.machine event).reply ≡ (half_run run event).world

@@ -13,8 +13,9 @@ use Rattle.mh_table_laws.proofs.tables.PageSlots.{slots_in-class_size}
 use Rattle.mh_sizing_laws.specs.Made.{births_less_slots}
 use Rattle.mh_sizing_laws.proofs.Births.{IsKeptByBirths}
 use Rattle.mh_sizing_laws.proofs.ClassWeights.{table-by_class, used-pages}
-use Rattle.mh_sizing_laws.proofs.openings.MadeParts.{IsAmong, among-is_class, among-classes, least-pages, more-pages, one_of, one_of-same, one_of-other, one_page_more, sum-one_more, taken-slots}
-use Rattle.mh_sizing_laws.proofs.openings.Rooms.{LeavesAlone, alone-taken, alone-then, dense_room, dense_room-none, taken-in_use, taken-fresh}
+use Rattle.mh_laws.proofs.rooms.FirstParts.{taken-slots}
+use Rattle.mh_sizing_laws.proofs.openings.MadeParts.{IsAmong, among-is_class, among-classes, least-pages, more-pages, one_of, one_of-same, one_of-other, one_page_more, sum-one_more}
+use Rattle.mh_laws.proofs.rooms.Rooms.{LeavesAlone, alone-taken, alone-then, dense_room, dense_room-none, taken-in_use, taken-fresh}
 use Rattle.mh_sizing_laws.proofs.filling.PutBirths.{free-of, other-weight}
 use Rattle.mh_sizing_laws.proofs.sharp_pages.ClassSums.{sum-below}
 use Rattle.mh_sizing_laws.proofs.triggers.FoundPlaces.{HasPlace, dense-place, free-place}

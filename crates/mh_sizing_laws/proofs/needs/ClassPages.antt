@@ -7,7 +7,7 @@ use Rattle.std.proofs.lemmas.Option.{none-some}
 use Rattle.mh_model.specs.Classes.{slots_in, is_class_size}
 use Rattle.mh_model.specs.Pages.{Page, Table, page_number, slot_number, page_at, block_count, is_dense, is_sparse, fresh_slot, least_place, page_for, HaveTheirSlots}
 use Rattle.mh_table_laws.proofs.placing.Places.{shaped-slots, open_slot-is, least_place-least}
-use Rattle.mh_sizing_laws.proofs.openings.Rooms.{empties, room_in, dense_room, dense_room-none}
+use Rattle.mh_laws.proofs.rooms.Rooms.{empties, room_in, dense_room, dense_room-none}
 use Rattle.mh_sizing_laws.proofs.filling.Slots.{blocks-empties}
 use Rattle.mh_sizing_laws.proofs.filling.Weights.{weights, weights-less, weigh, weigh-own}
 use Rattle.mh_sizing_laws.proofs.filling.PutBirths.{number_of, content_of, taken_of, free-of, flags-put, now-put, now-there, other-there, other-weight, own-weight}

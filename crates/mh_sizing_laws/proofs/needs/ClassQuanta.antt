@@ -26,7 +26,7 @@ use Rattle.mh_sizing_laws.proofs.filling.Ages.{birth_of, ages, ages-exchange}
 use Rattle.mh_sizing_laws.proofs.filling.AgedCommands.{with_shade-ages, mark_first-ages}
 use Rattle.mh_sizing_laws.proofs.filling.PutBirths.{other-there, other-weight}
 use Rattle.mh_sizing_laws.proofs.sharp_pages.SweptWeights.{aged, IsSweptTo, swept_page-is, swept-weights}
-use Rattle.mh_sizing_laws.proofs.triggers.Quanta.{table-phase_after}
+use Rattle.mh_laws.proofs.rooms.Quanta.{table-phase_after}
 use Rattle.mh_sizing_laws.proofs.needs.ClassPages.{class_pages, class_blocks, counts_one, counts_blocks, IsUnflagged, HasFewPages, pages-in_use}
 
 -- Pages of a class -------------------------------------------------------------------------------

@@ -33,9 +33,10 @@ use Rattle.mh_run_laws.proofs.runs.FaithfulMoments.{moments-faithful}
 use Rattle.mh_sizing_laws.specs.Made.{made_parts, parts_made, parts_made_in, intervals_made_in, births_less_slots, class_footprint}
 use Rattle.mh_sizing_laws.specs.Needs.{PagesForFootprintSuffice}
 use Rattle.mh_sizing_laws.proofs.Births.{with_parts, IsServedSo, command-served}
-use Rattle.mh_sizing_laws.proofs.openings.Intervals.{class_parts-append, quiet-event, quantum-event}
+use Rattle.mh_laws.proofs.rooms.QuietEvents.{quiet-event, quantum-event}
+use Rattle.mh_sizing_laws.proofs.openings.Intervals.{class_parts-append}
 use Rattle.mh_sizing_laws.proofs.openings.MadeParts.{IsAmong, among-is_class, more-pages}
-use Rattle.mh_sizing_laws.proofs.openings.Rooms.{alone-same}
+use Rattle.mh_laws.proofs.rooms.Rooms.{alone-same}
 use Rattle.mh_sizing_laws.proofs.ClassWeights.{none-weighs}
 use Rattle.mh_sizing_laws.proofs.filling.Ages.{birth_of, ages}
 use Rattle.mh_sizing_laws.proofs.filling.Weights.{weigh}

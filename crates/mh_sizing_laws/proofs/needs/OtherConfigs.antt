@@ -58,9 +58,7 @@ module _ (other : Config) where
   effect-same world who (command.Write slot index number) = ap done (change-same world (slot_at world (own_slot who slot)) (with_number index number))
   effect-same world who (command.Same left right) = refl
   effect-same world who (command.Shape slot) = ap (λ (object : Option Object). says (shape_reply (option_map shape_of object)) (in_other world)) (named-same world (slot_at world (own_slot who slot)))
-  effect-same world who (command.Post board slot) = refl
-  effect-same world who (command.Take slot board) = refl
-  effect-same world who command.End = refl
+  effect-same world who asked = refl
 
   step-same : (world : World) → other.rules ≡ world.config.rules → (who : ℕ) (command : Command) → world_step (in_other world) who command ≡ says (world_step world who command).reply (in_other (world_step world who command).state)
   unfolding heap_step
@@ -79,17 +77,7 @@ module _ (other : Config) where
 
   units-same : (config : Config) → other.rules ≡ config.rules → (command : Command) (answer : Reply) → command_units other command answer ≡ command_units config command answer
   units-same config rules (command.New slot references numbers) answer = rw rules refl
-  units-same config rules (command.Get slot source field) answer = refl
-  units-same config rules (command.Put slot field value) answer = refl
-  units-same config rules (command.Copy slot source) answer = refl
-  units-same config rules (command.Clear slot) answer = refl
-  units-same config rules (command.Read slot index) answer = refl
-  units-same config rules (command.Write slot index number) answer = refl
-  units-same config rules (command.Same left right) answer = refl
-  units-same config rules (command.Shape slot) answer = refl
-  units-same config rules (command.Post board slot) answer = refl
-  units-same config rules (command.Take slot board) answer = refl
-  units-same config rules command.End answer = refl
+  units-same config rules asked answer = refl
 
   half-same : (run : WorldRun) (event : Event) → other.rules ≡ run.world.config.rules → half_run (run_in run) event ≡ run_in (half_run run event)
   half-same run (event.Session who command) rules =
@@ -101,11 +89,7 @@ module _ (other : Config) where
   quantum-same run (event.Session who command) same =
       ap₂ (λ (every units : ℕ). not (every == 0) && nat_le every units) same.every (ap (λ (half : WorldRun). half.units) (half-same run (event.Session who command) same.rules))
   quantum-same run (event.Control control.Quantum) same = ap (λ (every : ℕ). every == 0) same.every
-  quantum-same run (event.Control control.Start) same = refl
-  quantum-same run (event.Control control.Stat) same = refl
-  quantum-same run (event.Control control.Dump) same = refl
-  quantum-same run (event.Control control.Left) same = refl
-  quantum-same run (event.Control (control.Report window)) same = refl
+  quantum-same run (event.Control asked) same = refl
 
   pub next-same : (run : WorldRun) (event : Event) → HasSameScheduler run.world.config other → next_run (run_in run) event ≡ run_in (next_run run event)
   next-same run event same =
@@ -123,17 +107,7 @@ module _ (other : Config) where
 
   parts-same : (config : Config) → other.rules ≡ config.rules → (event : Event) → asked_parts other event ≡ asked_parts config event
   parts-same config rules (event.Session who (command.New slot references numbers)) = ap (λ (most : ℕ). if nat_lt most (references + numbers) then [] else parts references numbers) (ap most_fields_under rules)
-  parts-same config rules (event.Session who (command.Get slot source field)) = refl
-  parts-same config rules (event.Session who (command.Put slot field value)) = refl
-  parts-same config rules (event.Session who (command.Copy slot source)) = refl
-  parts-same config rules (event.Session who (command.Clear slot)) = refl
-  parts-same config rules (event.Session who (command.Read slot index)) = refl
-  parts-same config rules (event.Session who (command.Write slot index number)) = refl
-  parts-same config rules (event.Session who (command.Same left right)) = refl
-  parts-same config rules (event.Session who (command.Shape slot)) = refl
-  parts-same config rules (event.Session who (command.Post board slot)) = refl
-  parts-same config rules (event.Session who (command.Take slot board)) = refl
-  parts-same config rules (event.Session who command.End) = refl
+  parts-same config rules (event.Session who asked) = refl
   parts-same config rules (event.Control control) = refl
 
   pub made-same : (run : WorldRun) (event : Event) → other.rules ≡ run.world.config.rules → made_parts (run_in run) event ≡ made_parts run event

@@ -1,6 +1,6 @@
 -- Between two quanta: what events open is no more than their parts fill by class.
 -- An *interval* is the events between two quanta; the event that has the second one run is its last.
-use Rattle.std.proofs.Common.{◌≡◌, inl, inr, ℕ, suc, ◌+◌, ◌==◌, ◌≤◌, nat_le, nat_lt, Bool, true, false, if◌then◌else◌, Option, Some, None, option_map, option_and_then, unwrap_or, List, [], ◌∷◌, ◌++◌, get_or, cond, refl, sym, ap, ◌∙◌, subst, arith}
+use Rattle.std.proofs.Common.{◌≡◌, inl, inr, ℕ, suc, ◌+◌, ◌≤◌, nat_le, nat_lt, Bool, true, false, if◌then◌else◌, Option, Some, None, option_map, option_and_then, unwrap_or, List, [], ◌∷◌, ◌++◌, get_or, cond, refl, sym, ap, ◌∙◌, subst, arith}
 use Rattle.std.specs.List.{flat_map}
 use Rattle.std.proofs.lemmas.Bool.{cases_Bool, true≢false, false≢true}
 use Rattle.std.proofs.lemmas.Option.{none-some, same_Some}
@@ -16,22 +16,23 @@ use Rattle.mh_model.specs.declared.config.Config.{Config}
 use Rattle.mh_model.specs.declared.reply.Refusal.{Refusal}
 use Rattle.mh_model.specs.declared.reply.Refusal.TheVariants.{BadSlot, TooLarge, HeapFull, Ended, TooManySessions}
 use Rattle.mh_model.specs.declared.reply.Reply.TheVariants as reply
-use Rattle.mh_model.specs.World.{Sight, says, own_slot, first_refusal, is_bad, refusal, unless_refused}
+use Rattle.mh_model.specs.World.{Sight, own_slot, first_refusal, is_bad, refusal, unless_refused}
 use Rattle.mh_model.specs.Classes.{Part, class_sizes, parts}
 use Rattle.mh_model.specs.Pages.{Table, free_pages, HaveTheirSlots}
 use Rattle.mh_model.specs.Table.{Block, Made, MadeParts, made_parts, linked_parts, group_of, made_group}
 use Rattle.mh_model.specs.Collector.{Collector}
 use Rattle.mh_model.specs.Mutator.{HeapState, new_group, with_born, heap_sight, heap_effect, mutator_step}
-use Rattle.mh_model.specs.Machine.{Machine, first_machine, is_quantum_due, quantum_run, command_step, control_step, half_step, event_step, machine_after}
+use Rattle.mh_model.specs.Machine.{Machine, first_machine, quantum_run, command_step, half_step, event_step, machine_after}
 use Rattle.mh_model.specs.Snapshot.{has_quantum}
 use Rattle.mh_laws.proofs.bounds.CyclesInTime.{run-stays}
 use Rattle.mh_laws.proofs.commands.LeftUnchanged.{mutator_step-course, machine_after-pages}
 use Rattle.mh_laws.proofs.runs.EveryMoment.{config-mutator_step, machine_after-keeps}
 use Rattle.mh_model.specs.Openings.{is_of_class, class_parts, asked_parts, opens_at_most, free_of}
 use Rattle.mh_sizing_laws.specs.Openings.{ObjectsOpenFewPages, IntervalsOpenFewPages}
-use Rattle.mh_sizing_laws.proofs.openings.Rooms.{HasSameRoom}
+use Rattle.mh_laws.proofs.rooms.Rooms.{HasSameRoom}
 use Rattle.mh_sizing_laws.proofs.openings.MadeParts.{IsOpened, opened-none, opened-more, made_parts-opened, opened-few}
-use Rattle.mh_sizing_laws.proofs.openings.KeptRoom.{linked_parts-room, with_root-room, heap_effect-room}
+use Rattle.mh_laws.proofs.rooms.KeptRoom.{linked_parts-room, with_root-room, heap_effect-room}
+use Rattle.mh_laws.proofs.rooms.QuietEvents.{IsLikewise, quiet-event, quantum-event}
 
 -- Objects ----------------------------------------------------------------------------------------
 
@@ -122,47 +123,6 @@ asked-cons config event events size = ap (class_parts size) (flat_map-cons (aske
 
 pub asked-append : (config : Config) (first second : List Event) (size : ℕ) → asked_of config (first ++ second) size ≡ asked_of config first size + asked_of config second size
 asked-append config first second size = ap (class_parts size) (flat_map-append (asked_parts config) first second) ∙ class_parts-append size (flat_map (asked_parts config) first) (flat_map (asked_parts config) second)
-
--- a machine with the table, the course and the count of quanta of another
-pub record IsLikewise (old new : Machine) : Type 0 where
-  pub config : new.heap.config ≡ old.heap.config
-  pub table : new.heap.collector.table ≡ old.heap.collector.table
-  pub phase : new.heap.collector.phase ≡ old.heap.collector.phase
-  pub cycle : new.heap.collector.cycle ≡ old.heap.collector.cycle
-  pub quanta : new.heap.collector.quanta ≡ old.heap.collector.quanta
-  pub count : new.trace.quanta ≡ old.trace.quanta
-
-likewise : (machine : Machine) → IsLikewise machine machine
-likewise machine = record { config = refl; table = refl; phase = refl; cycle = refl; quanta = refl; count = refl }
-
--- what an event does after its half step: a quantum, or nothing that matters here
-pub quiet-event : (machine : Machine) (event : Event) → has_quantum machine event ≡ false → IsLikewise (half_step machine event) (event_step machine event).state
-unfolding event_step control_step
-quiet-event machine (event.Session who command) quiet = go (is_quantum_due (command_step machine who command).state) quiet
-  where
-    go : (due : Bool) → due ≡ false → IsLikewise (command_step machine who command).state (if due then (quantum_run (command_step machine who command).state).state else (command_step machine who command).state)
-    go true h = absurd (true≢false h)
-    go false h = likewise (command_step machine who command).state
-quiet-event machine (event.Control control.Quantum) quiet = go (machine.heap.config.every == 0) quiet
-  where
-    go : (asked : Bool) → asked ≡ false → IsLikewise machine (if asked then quantum_run machine else says (reply.Spent 0 machine.heap.collector.phase) machine).state
-    go true h = absurd (true≢false h)
-    go false h = likewise machine
-quiet-event machine (event.Control control.Start) quiet = record { config = refl; table = refl; phase = refl; cycle = refl; quanta = refl; count = refl }
-quiet-event machine (event.Control control.Stat) quiet = likewise machine
-quiet-event machine (event.Control control.Dump) quiet = likewise machine
-quiet-event machine (event.Control control.Left) quiet = likewise machine
-quiet-event machine (event.Control (control.Report window)) quiet = likewise machine
-
-pub quantum-event : (machine : Machine) (event : Event) → has_quantum machine event ≡ true → (event_step machine event).state ≡ (quantum_run (half_step machine event)).state
-unfolding event_step control_step
-quantum-event machine (event.Session who command) runs = ap (λ due. if due then (quantum_run (command_step machine who command).state).state else (command_step machine who command).state) runs
-quantum-event machine (event.Control control.Quantum) runs = ap (λ asked. (if asked then quantum_run machine else says (reply.Spent 0 machine.heap.collector.phase) machine).state) runs
-quantum-event machine (event.Control control.Start) runs = absurd (false≢true runs)
-quantum-event machine (event.Control control.Stat) runs = absurd (false≢true runs)
-quantum-event machine (event.Control control.Dump) runs = absurd (false≢true runs)
-quantum-event machine (event.Control control.Left) runs = absurd (false≢true runs)
-quantum-event machine (event.Control (control.Report window)) runs = absurd (false≢true runs)
 
 -- Intervals --------------------------------------------------------------------------------------
 

@@ -1,6 +1,6 @@
 -- Parts that are made open few pages: of each class no page is opened while an unflagged page has room.
 -- This is the heart: the slots of the pages that its blocks opened are no more than these blocks and that room.
-use Rattle.std.proofs.Common.{◌≡◌, ◌≢◌, inl, inr, ℕ, suc, ◌+◌, ◌-◌, ◌*◌, ◌==◌, ◌<◌, ◌≤◌, ◌||◌, not, Bool, true, false, if◌then◌else◌, Option, Some, None, option_map, option_and_then, unwrap_or, List, [], ◌∷◌, cond, refl, sym, ap, ◌∙◌, subst, arith, add-one, eq-eqb}
+use Rattle.std.proofs.Common.{◌≡◌, ◌≢◌, inl, inr, ℕ, suc, ◌+◌, ◌-◌, ◌*◌, ◌==◌, ◌<◌, ◌≤◌, ◌||◌, not, Bool, true, false, if◌then◌else◌, Option, Some, None, option_map, unwrap_or, List, [], ◌∷◌, cond, refl, sym, ap, ◌∙◌, subst, arith, add-one, eq-eqb}
 use Rattle.std.specs.Int.{div_ceil}
 use Rattle.std.specs.List.{sum_by, list_any}
 use Rattle.std.proofs.Math.Nat.{mul-suc, mul_comm, mul-le-mul_left}
@@ -9,14 +9,14 @@ use Rattle.std.proofs.lemmas.Grind.{div_ceil_times}
 use Rattle.std.proofs.lemmas.Option.{none-some, same_Some}
 use Rattle.std.proofs.lemmas.List.Sums.{sum_by-cons, sum_by-le-sum_by}
 use Rattle.mh_model.specs.Classes.{Part, class_sizes, class_of, part_words, slots_in, is_class_size}
-use Rattle.mh_model.specs.Pages.{Page, Table, page_number, slot_number, page_at, free_pages, is_dense, is_sparse, open_slot, fresh_slot, least_place, page_for, with_taken, HasItsSlots, HaveTheirSlots}
-use Rattle.mh_model.specs.Table.{Block, Made, MadeParts, new_block, made_in_class, made_parts}
+use Rattle.mh_model.specs.Pages.{Page, Table, page_number, slot_number, page_at, free_pages, is_dense, is_sparse, open_slot, fresh_slot, least_place, with_taken, HaveTheirSlots}
+use Rattle.mh_model.specs.Table.{Block, MadeParts, new_block, made_parts}
 use Rattle.mh_table_laws.specs.Placing.{IsFound}
-use Rattle.mh_table_laws.proofs.Lists.{get_or-set_either}
 use Rattle.mh_table_laws.proofs.placing.Places.{shaped-slots, open_slot-is, least_place-least}
-use Rattle.mh_table_laws.proofs.tables.PageSlots.{slots_in-class_size, class_of-class_size, page_with-slots, page_for-slots}
+use Rattle.mh_table_laws.proofs.tables.PageSlots.{slots_in-class_size, class_of-class_size}
 use Rattle.mh_model.specs.Openings.{is_of_class, class_parts, pages_for}
-use Rattle.mh_sizing_laws.proofs.openings.Rooms.{dense_room, dense_room-none, TakesRoom, taken-in_use, OpensPage, taken-fresh}
+use Rattle.mh_laws.proofs.rooms.Rooms.{dense_room, dense_room-none, TakesRoom, taken-in_use, OpensPage, taken-fresh}
+use Rattle.mh_laws.proofs.rooms.FirstParts.{first-made, taken-slots}
 
 -- Sums over classes ------------------------------------------------------------------------------
 
@@ -155,49 +155,6 @@ module _ (sizes : List ℕ) where
       fresh_page (Some page) gives = absurd (none-some (slot_number place) gives)
 
 -- Parts in order ---------------------------------------------------------------------------------
-
--- the first of parts that are made, and those after it
-pub record IsFirst (table : Table Block) (birth stamp index : ℕ) (part : Part) (after : List Part) (made : MadeParts) : Type 0 where
-  pub size : ℕ
-  pub class : class_of (part_words part) ≡ Some size
-  pub place : ℕ
-  pub least : least_place table size ≡ Some place
-  pub rest : MadeParts
-  pub rest_is : made_parts (with_taken table size place (new_block birth stamp index part)) birth stamp (suc index) after ≡ Some rest
-  pub table_is : rest.table ≡ made.table
-
-pub first-made : (table : Table Block) (birth stamp index : ℕ) (part : Part) (after : List Part) (made : MadeParts) → made_parts table birth stamp index (part ∷ after) ≡ Some made → IsFirst table birth stamp index part after made
-first-made table birth stamp index part after made e = by_class (class_of (part_words part)) refl e
-  where
-    block : Block
-    block = new_block birth stamp index part
-
-    -- the parts after a first one
-    rest_of : Made → Option MadeParts
-    rest_of first = option_map (λ (r : MadeParts). record { places = first.place ∷ r.places; table = r.table }) (made_parts first.table birth stamp (suc index) after)
-
-    by_rest : (size : ℕ) → class_of (part_words part) ≡ Some size → (place : ℕ) → least_place table size ≡ Some place → (rest : Option MadeParts) → made_parts (with_taken table size place block) birth stamp (suc index) after ≡ rest
-        → option_map (λ (r : MadeParts). record { places = place ∷ r.places; table = r.table }) rest ≡ Some made → IsFirst table birth stamp index part after made
-    by_rest size class place least None is h = absurd (none-some made h)
-    by_rest size class place least (Some rest) is h = record { size = size; class = class; place = place; least = least; rest = rest; rest_is = is; table_is = ap (λ (m : MadeParts). m.table) (same_Some (record { places = place ∷ rest.places; table = rest.table }) made h) }
-
-    by_place : (size : ℕ) → class_of (part_words part) ≡ Some size → (place : Option ℕ) → least_place table size ≡ place → option_and_then rest_of (option_map (λ p. record { place = p; table = with_taken table size p block }) place) ≡ Some made → IsFirst table birth stamp index part after made
-    by_place size class None is h = absurd (none-some made h)
-    by_place size class (Some place) is h = by_rest size class place is (made_parts (with_taken table size place block) birth stamp (suc index) after) refl h
-
-    by_class : (size : Option ℕ) → class_of (part_words part) ≡ size → option_and_then rest_of (option_and_then (made_in_class table block) size) ≡ Some made → IsFirst table birth stamp index part after made
-    by_class None is h = absurd (none-some made h)
-    by_class (Some size) is h = by_place size is (least_place table size) refl h
-
--- a place that is taken leaves each page the slots of its class
-pub taken-slots : {X : Type 0} (table : Table X) (size place : ℕ) (block : X) → is_class_size size ≡ true → HaveTheirSlots table → HaveTheirSlots (with_taken table size place block)
-taken-slots {X = X} table size place block class slots number page at = elim (get_or-set_either table (page_number place) number _ None (Some page) at) [
-  | inl written ↦ subst HasItsSlots (same_Some _ page written) (page_with-slots old (slot_number place) (Some block) (page_for-slots size (page_at table (page_number place)) class (λ p is. slots (page_number place) p is)))
-  | inr before ↦ slots number page before
-]
-  where
-    old : Page X
-    old = page_for size (page_at table (page_number place))
 
 pub class_parts-cons : (size other : ℕ) (part : Part) (list : List Part) → class_of (part_words part) ≡ Some size → class_parts other (part ∷ list) ≡ one_of size other + class_parts other list
 class_parts-cons size other part list class =

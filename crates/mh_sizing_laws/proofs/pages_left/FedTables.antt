@@ -10,7 +10,7 @@ use Rattle.mh_model.specs.Table.{Block, Made, new_block, with_block_change, link
 use Rattle.mh_table_laws.proofs.Lists.{below_length}
 use Rattle.mh_table_laws.proofs.placing.Places.{with_block-self, block_in-page_for}
 use Rattle.mh_model.specs.LiveParts.{slot_count, page_count, count_blocks, is_plain}
-use Rattle.mh_sizing_laws.proofs.openings.Rooms.{if_free, free_pages-set}
+use Rattle.mh_laws.proofs.rooms.Rooms.{if_free, free_pages-set}
 use Rattle.mh_sizing_laws.proofs.pages_left.Counting.{count-set, count-slot}
 use Rattle.mh_sizing_laws.proofs.pages_left.MadeGroups.{IsKeptByMaking, group-each}
 

@@ -5,7 +5,7 @@ use Rattle.std.proofs.lemmas.Bool.{cases_Bool, and_from, and_parts, false≢true
 use Rattle.mh_model.specs.declared.command.Event.{Event}
 use Rattle.mh_model.specs.declared.config.Config.{Config}
 use Rattle.mh_model.specs.declared.cycle.Phase.{Phase}
-use Rattle.mh_model.specs.declared.cycle.Phase.TheVariants.{Idle, Roots, Mark, Sweep, Defrag}
+use Rattle.mh_model.specs.declared.cycle.Phase.TheVariants.{Sweep}
 use Rattle.mh_model.specs.Collector.{Collector, is_idle, is_start_due, quantum}
 use Rattle.mh_model.specs.Machine.{Machine, half_step, event_step}
 use Rattle.mh_model.specs.Mutator.{HeapState}
@@ -24,7 +24,7 @@ use Rattle.mh_model.specs.CycleUnits.{snapshots}
 use Rattle.mh_model.specs.LiveParts.{HasAtMostLive, parts_since, count_blocks, is_plain}
 use Rattle.mh_sizing_laws.specs.PagesLeft.{FinishedCyclesLeaveFewPages}
 use Rattle.mh_model.specs.Intervals.{has_ended}
-use Rattle.mh_sizing_laws.proofs.openings.Intervals.{quiet-event, quantum-event}
+use Rattle.mh_laws.proofs.rooms.QuietEvents.{quiet-event, quantum-event}
 use Rattle.mh_sizing_laws.proofs.triggers.SizedRuns.{IsOnWay, half-on_way, run-collector}
 use Rattle.mh_sizing_laws.proofs.pages_left.BlocksInUse.{UsesWell, half-machine, event-uses}
 use Rattle.mh_sizing_laws.proofs.pages_left.GrownWorlds.{HasGrown, GrowsBy, grown-same, grown-more, event-grows}
@@ -186,11 +186,8 @@ module _ (P : World → Type 0) where
     ]
 
 pub idle-quiet : (phase : Phase) → is_idle phase ≡ true → in_sweep phase ≡ false
-idle-quiet Idle idle = refl
-idle-quiet Roots idle = refl
-idle-quiet Mark idle = refl
 idle-quiet Sweep idle = absurd (false≢true idle)
-idle-quiet Defrag idle = refl
+idle-quiet other idle = refl
 
 -- What a cycle that ends leaves of blocks that are no forwarders
 pub finished-plain : (config : Config) (events : List Event) (event : Event) (most : ℕ) →

@@ -6,7 +6,7 @@ use Rattle.mh_model.specs.Pages.{Table, least_place, with_taken, HaveTheirSlots,
 use Rattle.mh_model.specs.Table.{Block, Made, MadeParts, new_block, made_in_class, made_part, made_parts, with_block_change, linked_block, linked_parts, group_of, made_group}
 use Rattle.mh_table_laws.proofs.placing.Places.{shaped-slots, least_place-free}
 use Rattle.mh_table_laws.proofs.tables.PageSlots.{slots_in-class_size, class_of-class_size}
-use Rattle.mh_sizing_laws.proofs.openings.MadeParts.{taken-slots}
+use Rattle.mh_laws.proofs.rooms.FirstParts.{taken-slots}
 
 -- a relation of tables that is kept if a new block is put in a place that was free for its class, and if a block is linked to its children
 pub record IsKeptByMaking (R : Table Block → Table Block → Type 0) : Type 0 where

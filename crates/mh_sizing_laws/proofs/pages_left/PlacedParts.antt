@@ -27,8 +27,8 @@ use Rattle.mh_laws.proofs.commands.LeftUnchanged.{collector_step-keeps, mutator_
 use Rattle.mh_laws.proofs.costs.Quanta.{steps-stop, steps-go}
 use Rattle.mh_laws.proofs.moving.NextMove.{next_move-is}
 use Rattle.mh_laws.proofs.runs.EveryMoment.{machine_after-keeps}
-use Rattle.mh_sizing_laws.proofs.openings.MadeParts.{first-made, taken-slots}
-use Rattle.mh_sizing_laws.proofs.triggers.Quanta.{table-phase_after}
+use Rattle.mh_laws.proofs.rooms.FirstParts.{first-made, taken-slots}
+use Rattle.mh_laws.proofs.rooms.Quanta.{table-phase_after}
 use Rattle.mh_sizing_laws.proofs.sharp_pages.SweptWeights.{swept_page-is}
 
 -- Headers ----------------------------------------------------------------------------------------

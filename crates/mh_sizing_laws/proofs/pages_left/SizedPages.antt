@@ -26,8 +26,8 @@ use Rattle.mh_model.specs.LiveParts.{HasAtMostLive, parts_since, worlds}
 use Rattle.mh_sizing_laws.specs.PagesLeft.{HasPagesForCycles, PagesSuffice, PagesForTheBoundSuffice}
 use Rattle.mh_model.specs.Intervals.{moments, intervals, has_ended, HasRoomFor}
 use Rattle.mh_model.specs.Intervals as run
-use Rattle.mh_sizing_laws.proofs.openings.Intervals.{quiet-event}
-use Rattle.mh_sizing_laws.proofs.triggers.Quanta.{IsAfter, quantum-after}
+use Rattle.mh_laws.proofs.rooms.QuietEvents.{quiet-event}
+use Rattle.mh_laws.proofs.rooms.Quanta.{IsAfter, quantum-after}
 use Rattle.mh_sizing_laws.proofs.triggers.SizedRuns.{half-on_way, next-stays, half-stays, room-suffices, some-quanta, cycles-bounded}
 use Rattle.mh_sizing_laws.proofs.pages_left.BlocksInUse.{half-machine}
 use Rattle.mh_sizing_laws.proofs.pages_left.FinishedCycles.{next-world, next-snapshot, half-snapshot, half-grows, next-grown, ran-collector, ended-run, HoldsAtStart, HoldsOfSnapshot, snapshots-later, snapshots-start, ended-snapshot, running-snapshot, finished-few}

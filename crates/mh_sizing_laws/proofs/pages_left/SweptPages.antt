@@ -20,11 +20,12 @@ use Rattle.mh_laws.proofs.moving.NextMove.{next_move-is}
 use Rattle.mh_laws.proofs.sweeping.SweepSteps.{snapshot-sweep_step}
 use Rattle.mh_model.specs.LiveParts.{slot_count, page_count, count_blocks, is_plain}
 use Rattle.mh_model.specs.Limits.{root_slots}
-use Rattle.mh_sizing_laws.proofs.openings.Rooms.{if_free, free_pages-set, same_room-with_block}
+use Rattle.mh_laws.proofs.rooms.Rooms.{if_free, free_pages-set, same_room-with_block}
 use Rattle.mh_sizing_laws.proofs.Weighing.{place-of}
 use Rattle.mh_sizing_laws.proofs.pages_left.Counting.{count-set, count-with_block}
 use Rattle.mh_sizing_laws.proofs.pages_left.FedTables.{HasBlock, IsWithin, Feeds, plain-is, taken-counts}
 use Rattle.mh_sizing_laws.proofs.pages_left.FedCommands.{with_shade-feeds, mark_first-feeds}
+use Rattle.mh_laws.proofs.rooms.Moves.{move-free}
 
 -- Let some pages, which are anchored, have some blocks that stay
 module _ (staying anchored : ℕ) where
@@ -172,17 +173,6 @@ swept-plain n c sound sweeps slots past has number page at =
 
 length-with_block : (table : Table Block) (place : ℕ) (content : Option Block) → length (with_block table place content) ≡ length table
 length-with_block table place content = length-set table (page_number place) _
-
--- a move goes to a place that is free for its class
-pub move-free : (table : Table Block) (place : ℕ) (move : Move) → HaveTheirSlots table → next_move table place ≡ Some move → IsFreeFor table move.class_size move.target
-move-free table place move slots e =
-    let (page, at, of_class, unflagged, empty) = least_dense_place-page table move.class_size (shaped-slots table slots) move.target (next_move-is table place move e).target in
-    record {
-      inside = below_length table (page_number move.target) page at;
-      empty = ap (option_and_then (block_in (slot_number move.target))) at ∙ empty.empty;
-      within = subst (λ content. slot_number move.target < length (page_for move.class_size content).slots) (sym at) empty.within;
-      of_class = subst (λ content. (page_for move.class_size content).class_size ≡ move.class_size) (sym at) of_class;
-    }
 
 module _ (staying anchored : ℕ) where
   -- a move takes a block from one page in use to another

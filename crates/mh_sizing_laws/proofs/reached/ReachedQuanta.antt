@@ -7,7 +7,7 @@ use Rattle.mh_model.specs.declared.command.Command.{Command}
 use Rattle.mh_model.specs.declared.command.Event.TheVariants as event
 use Rattle.mh_model.specs.declared.config.Config.{Config}
 use Rattle.mh_model.specs.declared.cycle.Phase.{Phase}
-use Rattle.mh_model.specs.declared.cycle.Phase.TheVariants.{Idle, Roots, Mark, Sweep, Defrag}
+use Rattle.mh_model.specs.declared.cycle.Phase.TheVariants.{Roots, Mark}
 use Rattle.mh_model.specs.declared.shape.Shape.{Shape}
 use Rattle.mh_model.specs.Classes.{parts}
 use Rattle.mh_model.specs.Collector.{Collector, is_idle, is_start_due, cycle_start, steps, quantum}
@@ -34,7 +34,7 @@ use Rattle.mh_model.specs.Openings.{asked_parts}
 use Rattle.mh_model.specs.CycleUnits.{marking_units}
 use Rattle.mh_model.specs.CycleUnits.{parts_of, ReachesAtMost}
 use Rattle.mh_model.specs.Limits.{quantum_overhead}
-use Rattle.mh_sizing_laws.proofs.openings.Rooms.{LeavesAlone}
+use Rattle.mh_laws.proofs.rooms.Rooms.{LeavesAlone}
 use Rattle.mh_sizing_laws.proofs.cycles.Classes.{HasClasses, PartsFit, FitsClass}
 use Rattle.mh_sizing_laws.proofs.cycles.SharperSteps.{sharp_left, FitsStage}
 use Rattle.mh_sizing_laws.proofs.cycles.SharperQuanta.{table_weight-less, units_by, IsSharp, idle-sharp, under-recounted, fits-recounted, sharp-recounted, sharp-asked, quantum-sharp, command-sharp}
@@ -86,11 +86,9 @@ reaching-asked config marked wide dear snapshot collector is = record {
 }
 
 left-weighs : (wide dear : ℕ) (phase : Phase) (collector : Collector) → in_roots_or_mark phase ≡ true → table_weight in_units collector.cycle collector.table ≤ sharp_left wide dear phase collector
-left-weighs wide dear Idle collector e = absurd (false≢true e)
 left-weighs wide dear Roots collector e = omega arith
 left-weighs wide dear Mark collector e = omega arith
-left-weighs wide dear Sweep collector e = absurd (false≢true e)
-left-weighs wide dear Defrag collector e = absurd (false≢true e)
+left-weighs wide dear other collector e = absurd (false≢true e)
 
 -- Its quanta have spent no more than that
 pub reaching-spent : (config : Config) (marked wide dear : ℕ) (snapshot : World) (n : ℕ) (collector : Collector) → KeepsSnapshot snapshot n collector → IsReaching config marked wide dear snapshot collector → collector.quanta * (config.quantum - quantum_overhead) ≤ units_by config marked wide dear

@@ -23,9 +23,10 @@ use Rattle.mh_model.specs.CycleUnits.{most_slots, most_moves, quanta_for}
 use Rattle.mh_model.specs.CycleUnits.{ReachesAtMost, snapshots}
 use Rattle.mh_model.specs.Limits.{quantum_overhead}
 use Rattle.mh_sizing_laws.specs.Reached.{RoomForReachedSuffices}
-use Rattle.mh_sizing_laws.proofs.openings.Rooms.{LeavesAlone}
+use Rattle.mh_laws.proofs.rooms.Rooms.{LeavesAlone}
 use Rattle.mh_sizing_laws.proofs.openings.MadeParts.{pages_of}
-use Rattle.mh_sizing_laws.proofs.openings.Intervals.{asked_of, asked-cons, quantum-event, since-half}
+use Rattle.mh_laws.proofs.rooms.QuietEvents.{quantum-event}
+use Rattle.mh_sizing_laws.proofs.openings.Intervals.{asked_of, asked-cons, since-half}
 use Rattle.mh_sizing_laws.proofs.triggers.Commands.{event-served}
 use Rattle.mh_sizing_laws.proofs.triggers.SizedRuns.{run-collector, ends-later, IsShort, HasHadFewer, LeavesEnough, opens-event, event-short, IsReady, start-room, half-stays, ready-next, ready-first}
 use Rattle.mh_sizing_laws.proofs.cycles.Classes.{PartsFit, FitsClass}

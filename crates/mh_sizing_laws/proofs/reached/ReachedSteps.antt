@@ -13,7 +13,7 @@ use Rattle.mh_model.specs.Mutator.{in_roots_or_mark}
 use Rattle.mh_model.specs.World.{World, births}
 use Rattle.mh_table_laws.proofs.marking.GreyList.{MarksThrough, mark_first-pays, cycle-mark_first}
 use Rattle.mh_laws.proofs.bounds.CommandsKeepBounds.{with_shade-carries}
-use Rattle.mh_laws.proofs.bounds.CycleBounds.{charge}
+use Rattle.mh_laws.proofs.bounds.CycleBounds.{charge, step-charged}
 use Rattle.mh_laws.proofs.bounds.WorkLeft.{collector_step-paid}
 use Rattle.mh_laws.proofs.commands.LeftUnchanged.{step_in-keeps, mark_first-keeps, collector_step-keeps}
 use Rattle.mh_laws.proofs.costs.Quanta.{steps-stop, steps-go}
@@ -23,7 +23,7 @@ use Rattle.mh_model.specs.CycleUnits.{marking_units}
 use Rattle.mh_model.specs.CycleUnits.{ReachesAtMost}
 use Rattle.mh_model.specs.Limits.{root_slots}
 use Rattle.mh_sizing_laws.proofs.cycles.Classes.{HasClasses, collector_step-classes, FitsClass}
-use Rattle.mh_sizing_laws.proofs.cycles.SharperSteps.{sharp_left, FitsStage, collector_step-sharp, step-charged, steps-sharp}
+use Rattle.mh_sizing_laws.proofs.cycles.SharperSteps.{sharp_left, FitsStage, collector_step-sharp, steps-sharp}
 use Rattle.mh_sizing_laws.proofs.reached.HeldBlocks.{Holds, holds-then, mark_first-holds, with_shade-holds}
 use Rattle.mh_sizing_laws.proofs.reached.MarkedUnits.{HasBegun, begun-weighs}
 
@@ -75,11 +75,9 @@ module _ (most : ℕ) where
       rooting false = with_shade-holds most c (get_or c.slots c.cursor None)
 
       go : (phase : Phase) → in_roots_or_mark phase ≡ true → Holds most c.table (phase_after phase (step_in phase c)).table
-      go Idle e = absurd (false≢true e)
       go Roots e = rooting ((roots_step c).cursor == root_slots)
       go Mark e = subst (Holds most c.table) (sym (after_mark-table (step_in Mark c) (step_in Mark c).grey)) (mark_first-holds most (marking_of c) c.grey)
-      go Sweep e = absurd (false≢true e)
-      go Defrag e = absurd (false≢true e)
+      go other e = absurd (false≢true e)
 
 module _ (wide dear : ℕ) where
   -- The step that ends marking leaves unmarked blocks, and no more to spend than on pages
@@ -119,11 +117,9 @@ module _ (wide dear : ℕ) where
           after_mark-last new (first_mark_cost c.table (place ∷ grey)) (sharp_left wide dear Mark c) (omega (arith, pages, under.some_page)) (omega (arith, units, ap (λ n. (wide + dear) * n) pages)) marked.grey l
 
       go : (phase : Phase) → in_roots_or_mark phase ≡ true → in_roots_or_mark (phase_after phase (step_in phase c)).phase ≡ false → StageOf phase c → IsLast (cost_in phase c true) (sharp_left wide dear phase c) (phase_after phase (step_in phase c))
-      go Idle e l stage = absurd (false≢true e)
       go Roots e l stage = rooting ((roots_step c).cursor == root_slots) stage l
       go Mark e l stage = marking c.grey refl stage l
-      go Sweep e l stage = absurd (false≢true e)
-      go Defrag e l stage = absurd (false≢true e)
+      go other e l stage = absurd (false≢true e)
 
   -- Steps of a quantum ---------------------------------------------------------------------------
 

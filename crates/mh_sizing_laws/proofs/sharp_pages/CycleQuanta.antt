@@ -25,7 +25,7 @@ use Rattle.mh_run_laws.proofs.showing.StepsShow.{agrees-collector_step}
 use Rattle.mh_run_laws.proofs.snapshots.AgreeingWorlds.{snapshot-agreeing}
 use Rattle.mh_sizing_laws.proofs.cycles.Classes.{HasClasses, collector_step-classes}
 use Rattle.mh_sizing_laws.proofs.openings.MadeParts.{IsAmong}
-use Rattle.mh_sizing_laws.proofs.openings.Rooms.{empties}
+use Rattle.mh_laws.proofs.rooms.Rooms.{empties}
 use Rattle.mh_sizing_laws.proofs.pages_left.GrownWorlds.{HasGrown, grown-same}
 use Rattle.mh_sizing_laws.proofs.pages_left.PlacedParts.{ArePlaced, step-placed}
 use Rattle.mh_sizing_laws.specs.Anchors.{ReachesThoseThatStay}

@@ -124,17 +124,11 @@ module _ (anchors : Anchors) (sizes : List ℕ) (from most filled bound : ℕ) (
       where
         defrag-runs : (phase : Phase) → in_defrag phase ≡ true → is_idle phase ≡ false
         defrag-runs Defrag e = refl
-        defrag-runs Idle e = absurd (false≢true e)
-        defrag-runs Roots e = absurd (false≢true e)
-        defrag-runs Mark e = absurd (false≢true e)
-        defrag-runs Sweep e = absurd (false≢true e)
+        defrag-runs other e = absurd (false≢true e)
 
         defrag-quiet : (phase : Phase) → in_defrag phase ≡ true → in_sweep phase ≡ false
-        defrag-quiet Defrag e = refl
-        defrag-quiet Idle e = refl
-        defrag-quiet Roots e = refl
-        defrag-quiet Mark e = refl
         defrag-quiet Sweep e = absurd (false≢true e)
+        defrag-quiet other e = refl
 
     module _ (heap : HeapState) (works : Works snapshot world heap) where
       abbrev c : Collector

@@ -12,7 +12,8 @@ use Rattle.mh_model.specs.Snapshot.{has_quantum}
 use Rattle.mh_laws.proofs.bounds.CyclesInTime.{StaysInBounds}
 use Rattle.mh_laws.proofs.commands.LeftUnchanged.{mutator_step-course}
 use Rattle.mh_sizing_laws.proofs.cycles.SharperRuns.{quiet-collector}
-use Rattle.mh_sizing_laws.proofs.openings.Intervals.{asked_of, asked-cons, asked-append, since-half, since-likewise, since-more, quiet-event}
+use Rattle.mh_laws.proofs.rooms.QuietEvents.{quiet-event}
+use Rattle.mh_sizing_laws.proofs.openings.Intervals.{asked_of, asked-cons, asked-append, since-half, since-likewise, since-more}
 use Rattle.mh_sizing_laws.proofs.anchors.GivenAnchors.{Anchors, anchor_at}
 use Rattle.mh_sizing_laws.proofs.filling.Beside.{family_beside, allows-beside}
 use Rattle.mh_sizing_laws.proofs.filling.FilledTables.{AllFill}

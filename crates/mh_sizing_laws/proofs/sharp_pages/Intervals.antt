@@ -12,7 +12,7 @@ use Rattle.mh_model.specs.Machine.{Machine, command_step, half_step}
 use Rattle.mh_model.specs.Openings.{class_parts, asked_parts, pages_for}
 use Rattle.mh_table_laws.proofs.PageMapLemmas.{have_their_slots}
 use Rattle.mh_sizing_laws.proofs.openings.Intervals.{asked_of, asked-cons, asked-append}
-use Rattle.mh_sizing_laws.proofs.openings.Rooms.{empties}
+use Rattle.mh_laws.proofs.rooms.Rooms.{empties}
 use Rattle.mh_sizing_laws.proofs.filling.Weights.{weights, weigh, weigh-less}
 use Rattle.mh_sizing_laws.proofs.filling.Slots.{youngs, olds, blocks-empties}
 use Rattle.mh_sizing_laws.proofs.filling.PageWeights.{traced_by, traced, marking, newborn}

@@ -10,7 +10,7 @@ use Rattle.mh_model.specs.Table.{Block}
 use Rattle.mh_table_laws.proofs.placing.Places.{shaped-slots, least_dense_place-page, block_at-with_taken_other}
 use Rattle.mh_laws.proofs.moving.NextMove.{next_move-is}
 use Rattle.mh_sizing_laws.proofs.openings.MadeParts.{one_of}
-use Rattle.mh_sizing_laws.proofs.openings.Rooms.{taken-in_use, same_room-with_block}
+use Rattle.mh_laws.proofs.rooms.Rooms.{taken-in_use, same_room-with_block}
 use Rattle.mh_sizing_laws.proofs.filling.Beside.{kind_beside, family_beside, allows-beside}
 use Rattle.mh_sizing_laws.proofs.filling.Fillings.{Fills, fills-more}
 use Rattle.mh_sizing_laws.proofs.filling.PageWeights.{resting, resting-allows}

@@ -21,9 +21,9 @@ use Rattle.mh_run_laws.proofs.following.AllCommands.{commands-follow}
 use Rattle.mh_run_laws.proofs.runs.FaithfulMoments.{moments-faithful}
 use Rattle.mh_run_laws.proofs.worlds.Moments.{machine-moment_after}
 use Rattle.mh_sizing_laws.proofs.cycles.Classes.{HasClasses, PartsFit}
-use Rattle.mh_sizing_laws.proofs.openings.Intervals.{quiet-event}
+use Rattle.mh_laws.proofs.rooms.QuietEvents.{quiet-event}
 use Rattle.mh_sizing_laws.proofs.openings.MadeParts.{IsAmong}
-use Rattle.mh_sizing_laws.proofs.triggers.Quanta.{IsAfter, quantum-after}
+use Rattle.mh_laws.proofs.rooms.Quanta.{IsAfter, quantum-after}
 use Rattle.mh_sizing_laws.proofs.triggers.SizedRuns.{HasHadFewer, next-stays, half-stays}
 use Rattle.mh_sizing_laws.specs.Anchors.{ReachesThoseThatStay}
 use Rattle.mh_sizing_laws.proofs.pages_left.BlocksInUse.{half-machine}

@@ -6,7 +6,7 @@ use Rattle.std.proofs.lemmas.Bool.{cases_Bool, false≢true, true≢false}
 use Rattle.mh_model.specs.declared.command.Event.{Event}
 use Rattle.mh_model.specs.declared.config.Config.{Config}
 use Rattle.mh_model.specs.declared.cycle.Phase.{Phase}
-use Rattle.mh_model.specs.declared.cycle.Phase.TheVariants.{Idle, Roots, Mark, Sweep, Defrag}
+use Rattle.mh_model.specs.declared.cycle.Phase.TheVariants.{Idle, Defrag}
 use Rattle.mh_model.specs.Classes.{Part, class_sizes, slots_in}
 use Rattle.mh_model.specs.Collector.{Collector, is_idle}
 use Rattle.mh_model.specs.Invariant.{in_trace, in_defrag}
@@ -32,38 +32,27 @@ use Rattle.mh_sizing_laws.proofs.sharp_pages.Moves.{resting_beside}
 -- the phases in which a cycle runs
 not-traced : (phase : Phase) → in_trace phase ≡ false → is_idle phase ≡ false → in_defrag phase ≡ true
 not-traced Idle e f = absurd (true≢false f)
-not-traced Roots e f = absurd (true≢false e)
-not-traced Mark e f = absurd (true≢false e)
-not-traced Sweep e f = absurd (true≢false e)
 not-traced Defrag e f = refl
+not-traced other e f = absurd (true≢false e)
 
 pub traced-runs : (phase : Phase) → in_trace phase ≡ true → is_idle phase ≡ false
 traced-runs Idle e = absurd (false≢true e)
-traced-runs Roots e = refl
-traced-runs Mark e = refl
-traced-runs Sweep e = refl
 traced-runs Defrag e = absurd (false≢true e)
+traced-runs other e = refl
 
 pub moving-runs : (phase : Phase) → in_defrag phase ≡ true → is_idle phase ≡ false
 moving-runs Defrag e = refl
-moving-runs Idle e = absurd (false≢true e)
-moving-runs Roots e = absurd (false≢true e)
-moving-runs Mark e = absurd (false≢true e)
-moving-runs Sweep e = absurd (false≢true e)
+moving-runs other e = absurd (false≢true e)
 
 moving-untraced : (phase : Phase) → in_defrag phase ≡ true → in_trace phase ≡ false
 moving-untraced Defrag e = refl
 moving-untraced Idle e = refl
-moving-untraced Roots e = absurd (false≢true e)
-moving-untraced Mark e = absurd (false≢true e)
-moving-untraced Sweep e = absurd (false≢true e)
+moving-untraced other e = absurd (false≢true e)
 
 idle-untraced : (phase : Phase) → is_idle phase ≡ true → in_trace phase ≡ false
 idle-untraced Idle e = refl
-idle-untraced Roots e = absurd (false≢true e)
-idle-untraced Mark e = absurd (false≢true e)
-idle-untraced Sweep e = absurd (false≢true e)
 idle-untraced Defrag e = refl
+idle-untraced other e = absurd (false≢true e)
 
 pub phase-cases : (phase : Phase) → (is_idle phase ≡ false) → (in_trace phase ≡ true) ⊎ (in_defrag phase ≡ true)
 phase-cases phase runs = elim (cases_Bool (in_trace phase)) [ inl traces ↦ inl traces | inr not ↦ inr (not-traced phase not runs) ]

@@ -19,7 +19,7 @@ use Rattle.mh_sizing_laws.proofs.openings.MadeParts.{IsAmong}
 use Rattle.mh_sizing_laws.specs.Anchors.{staying_in, is_anchored, anchor_count, anchor_blocks}
 use Rattle.mh_sizing_laws.specs.Filled.{class_blocks}
 use Rattle.mh_sizing_laws.proofs.pages_left.PlacedParts.{header_class, is_in_class, ArePlaced}
-use Rattle.mh_sizing_laws.proofs.openings.Rooms.{if_free, empties}
+use Rattle.mh_laws.proofs.rooms.Rooms.{if_free, empties}
 use Rattle.mh_sizing_laws.proofs.Weighing.{place-of}
 use Rattle.mh_sizing_laws.proofs.filling.Weights.{weights, weigh, weigh-own, weigh-other, weigh-less}
 use Rattle.mh_sizing_laws.proofs.filling.Slots.{youngs, olds, olds-youngs}

@@ -10,7 +10,7 @@ use Rattle.mh_table_laws.specs.TableMaps.{page_map}
 use Rattle.mh_table_laws.proofs.TableMapLemmas.{length-table_map, page_at-table_map}
 use Rattle.mh_table_laws.proofs.tables.PageSlots.{judged_page-is}
 use Rattle.mh_table_laws.proofs.tables.BlockRoom.{survivor-same}
-use Rattle.mh_sizing_laws.proofs.openings.Rooms.{empties}
+use Rattle.mh_laws.proofs.rooms.Rooms.{empties}
 use Rattle.mh_sizing_laws.proofs.filling.Weights.{weights, weigh}
 use Rattle.mh_sizing_laws.proofs.filling.Slots.{youngs, olds}
 use Rattle.mh_sizing_laws.proofs.filling.PageWeights.{traced_by, traced}

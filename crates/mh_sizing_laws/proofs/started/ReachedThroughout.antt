@@ -104,13 +104,11 @@ effect-names world who (command.Put slot field value) = change-names world (own_
     elim (get_or-set_either object.references field other (slot_at world (own_slot who value)) None (Some target) is) [ inl new ↦ inr (slot-reached world (own_slot who value) target new) | inr old ↦ inl old ])
 effect-names world who (command.Copy slot source) = slot-names world (own_slot who slot) (slot_at world (own_slot who source)) (slot-reached world (own_slot who source))
 effect-names world who (command.Clear slot) = slot-names world (own_slot who slot) None (λ birth is. absurd (none-some birth is))
-effect-names world who (command.Read slot index) = names-same world
 effect-names world who (command.Write slot index number) = change-names world (own_slot who slot) (with_number index number) (λ object field target is. inl is)
-effect-names world who (command.Same left right) = names-same world
-effect-names world who (command.Shape slot) = names-same world
 effect-names world who (command.Post board slot) = slot-names world (board_slot board) (slot_at world (own_slot who slot)) (slot-reached world (own_slot who slot))
 effect-names world who (command.Take slot board) = slot-names world (own_slot who slot) (slot_at world (board_slot board)) (slot-reached world (board_slot board))
 effect-names world who command.End = end-names world who
+effect-names world who other = names-same world
 
 step-names : (world : World) (who : ℕ) (asked : Command) → NamesNoMore world (world_step world who asked).state
 unfolding heap_step

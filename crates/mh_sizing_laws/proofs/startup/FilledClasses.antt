@@ -9,7 +9,8 @@ use Rattle.mh_model.specs.Openings.{pages_for}
 use Rattle.mh_table_laws.proofs.Lists.{none_at}
 use Rattle.mh_table_laws.proofs.tables.PageSlots.{slots_in-class_size}
 use Rattle.mh_sizing_laws.specs.Startup.{filled_pages}
-use Rattle.mh_sizing_laws.proofs.openings.MadeParts.{IsAmong, among-is_class, more-pages, taken-slots}
+use Rattle.mh_laws.proofs.rooms.FirstParts.{taken-slots}
+use Rattle.mh_sizing_laws.proofs.openings.MadeParts.{IsAmong, among-is_class, more-pages}
 use Rattle.mh_sizing_laws.proofs.filling.Weights.{weights, weigh, weigh-less}
 use Rattle.mh_sizing_laws.proofs.sharp_pages.ClassSums.{sum-below}
 use Rattle.mh_sizing_laws.proofs.ClassWeights.{none-weighs, sum-same, table_weight, table-by_class}

@@ -87,10 +87,7 @@ rests-event machine (event.Control control.Quantum) none rests due = go (machine
     go true = run-collector machine ∙ quantum-rests machine.heap.config machine.heap.collector (ap is_idle rests.phase) due
     go false = refl
 rests-event machine (event.Control control.Start) none rests due = absurd (false≢true (sym none))
-rests-event machine (event.Control control.Stat) none rests due = refl
-rests-event machine (event.Control control.Dump) none rests due = refl
-rests-event machine (event.Control control.Left) none rests due = refl
-rests-event machine (event.Control (control.Report window)) none rests due = refl
+rests-event machine (event.Control asked) none rests due = refl
 
 -- Runs -------------------------------------------------------------------------------------------
 

@@ -25,9 +25,9 @@ use Rattle.mh_table_laws.proofs.objects.Parts.{parts_fit, some_parts}
 use Rattle.mh_laws.proofs.commands.CommandAnswers.{new-full}
 use Rattle.mh_run_laws.proofs.worlds.FullAlone.{new-alone, full-alone}
 use Rattle.mh_model.specs.Openings.{class_parts, asked_parts}
-use Rattle.mh_sizing_laws.proofs.openings.Rooms.{LeavesAlone, alone-same, alone-then}
+use Rattle.mh_laws.proofs.rooms.Rooms.{LeavesAlone, alone-same, alone-then}
 use Rattle.mh_sizing_laws.proofs.openings.MadeParts.{IsOpened, pages_of}
-use Rattle.mh_sizing_laws.proofs.openings.KeptRoom.{with_root-room, heap_effect-room}
+use Rattle.mh_laws.proofs.rooms.KeptRoom.{with_root-room, heap_effect-room}
 use Rattle.mh_sizing_laws.proofs.openings.Intervals.{new-allowed, IsSince}
 use Rattle.mh_sizing_laws.proofs.triggers.FoundPlaces.{IsFoundWhole, group-found}
 
@@ -96,11 +96,7 @@ control-reply machine control.Quantum = go (machine.heap.config.every == 0)
     go : (test : Bool) → is_heap_full (if test then quantum_run machine else says (reply.Spent 0 machine.heap.collector.phase) machine).reply ≡ false
     go true = refl
     go false = refl
-control-reply machine control.Start = refl
-control-reply machine control.Stat = refl
-control-reply machine control.Dump = refl
-control-reply machine control.Left = refl
-control-reply machine (control.Report window) = refl
+control-reply machine asked = refl
 
 -- an event that is answered by no full heap, and before whose quantum nothing goes into a flagged page
 pub record IsServed (machine : Machine) (event : Event) : Type 0 where

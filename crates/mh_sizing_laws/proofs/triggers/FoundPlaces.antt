@@ -9,9 +9,10 @@ use Rattle.mh_table_laws.proofs.Lists.{from_some}
 use Rattle.mh_table_laws.proofs.placing.Places.{shaped-slots, least-is, least-some, least-none, least_dense_place-page}
 use Rattle.mh_table_laws.proofs.tables.PageSlots.{class_of-class_size}
 use Rattle.mh_model.specs.Openings.{class_parts}
-use Rattle.mh_sizing_laws.proofs.openings.Rooms.{LeavesAlone, dense_room-none, alone-same, alone-then, alone-taken}
-use Rattle.mh_sizing_laws.proofs.openings.MadeParts.{one_of, IsOpened, opened-taken, taken-slots, class_parts-cons, among-classes, pages_of, pages_of-more, room-left}
-use Rattle.mh_sizing_laws.proofs.openings.KeptRoom.{linked_parts-room}
+use Rattle.mh_laws.proofs.rooms.Rooms.{LeavesAlone, dense_room-none, alone-same, alone-then, alone-taken}
+use Rattle.mh_laws.proofs.rooms.FirstParts.{taken-slots}
+use Rattle.mh_sizing_laws.proofs.openings.MadeParts.{one_of, IsOpened, opened-taken, class_parts-cons, among-classes, pages_of, pages_of-more, room-left}
+use Rattle.mh_laws.proofs.rooms.KeptRoom.{linked_parts-room}
 
 -- One part ---------------------------------------------------------------------------------------
 

@@ -26,9 +26,10 @@ use Rattle.mh_sizing_laws.specs.Triggers.{RoomSuffices, RoomForTheBoundSuffices}
 use Rattle.mh_model.specs.Intervals as run
 use Rattle.mh_model.specs.Limits.{quantum_overhead}
 use Rattle.mh_sizing_laws.proofs.openings.MadeParts.{opened-none, opened-few, pages_of, pages_of-more}
-use Rattle.mh_sizing_laws.proofs.openings.Intervals.{asked_of, asked-cons, asked-append, quiet-event, quantum-event, IsSince, since-half, since-likewise, since-more, since-first}
+use Rattle.mh_laws.proofs.rooms.QuietEvents.{quiet-event, quantum-event}
+use Rattle.mh_sizing_laws.proofs.openings.Intervals.{asked_of, asked-cons, asked-append, IsSince, since-half, since-likewise, since-more, since-first}
 use Rattle.mh_sizing_laws.proofs.triggers.Commands.{event-served}
-use Rattle.mh_sizing_laws.proofs.triggers.Quanta.{IsAfter, quantum-after}
+use Rattle.mh_laws.proofs.rooms.Quanta.{IsAfter, quantum-after}
 
 -- Half steps -------------------------------------------------------------------------------------
 

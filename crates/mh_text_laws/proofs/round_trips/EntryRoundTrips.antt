@@ -9,9 +9,9 @@ use Rattle.mh_model.specs.declared.command.Event.TheVariants as event
 use Rattle.mh_model.specs.declared.reply.Reply.{Reply}
 use Rattle.mh_model.specs.declared.reply.Reply.TheVariants as reply
 use Rattle.mh_model.specs.declared.reply.Refusal.{Refusal}
-use Rattle.mh_model.specs.declared.reply.Refusal.TheVariants.{BadSlot, Null, NoField, TooLarge, HeapFull, Ended, TooManySessions}
+use Rattle.mh_model.specs.declared.reply.Refusal.TheVariants.{BadSlot}
 use Rattle.mh_model.specs.declared.cycle.Phase.{Phase}
-use Rattle.mh_model.specs.declared.cycle.Phase.TheVariants.{Idle, Roots, Mark, Sweep, Defrag}
+use Rattle.mh_model.specs.declared.cycle.Phase.TheVariants.{Idle}
 use Rattle.mh_model.specs.declared.dump.DumpItem.{DumpItem}
 use Rattle.mh_model.specs.declared.dump.DumpItem.TheVariants as item
 use Rattle.mh_model.specs.declared.history.Entry.{Entry}
@@ -123,10 +123,7 @@ flag_plain false = refl
 
 phase_plain : (phase : Phase) → is_plain (phase_word phase) ≡ true
 phase_plain Idle = refl
-phase_plain Roots = refl
-phase_plain Mark = refl
-phase_plain Sweep = refl
-phase_plain Defrag = refl
+phase_plain other = refl
 
 optional_plain : (n : Option ℕ) → are_u64 (option_to_list n) ≡ true → is_plain (optional_word n) ≡ true
 optional_plain None h = refl
@@ -134,12 +131,7 @@ optional_plain (Some n) h = plain_decimal n (ltb-true n u64 (and_parts _ _ h).0)
 
 refusal_plain : (refusal : Refusal) → are_plain (refusal_words refusal) ≡ true
 refusal_plain BadSlot = refl
-refusal_plain Null = refl
-refusal_plain NoField = refl
-refusal_plain TooLarge = refl
-refusal_plain HeapFull = refl
-refusal_plain Ended = refl
-refusal_plain TooManySessions = refl
+refusal_plain other = refl
 
 item_plain : (i : DumpItem) → are_u64 (item_numbers i) ≡ true → are_plain (item_words i) ≡ true
 item_plain (item.Page page class_size flag) h =
@@ -155,9 +147,6 @@ items_plain (i ∷ items) h =
     all-append is_plain (item_words i) (flat_map item_words items) (item_plain i (and_parts _ _ h).0) (items_plain items (and_parts _ _ h).1)
 
 reply_plain : (version : Version) (r : Reply) → is_reply version r ≡ true → are_plain (reply_words r) ≡ true
-reply_plain version reply.Done h = refl
-reply_plain version reply.Yes h = refl
-reply_plain version reply.No h = refl
 reply_plain version (reply.Number n) h = plain_decimals (n ∷ []) h
 reply_plain version (reply.Shape shape) h = plain_decimals (shape.references ∷ shape.numbers ∷ []) (small_numbers (u32 ∷ u32 ∷ []) (shape.references ∷ shape.numbers ∷ []) h refl)
 reply_plain version (reply.Refused refusal) h = refusal_plain refusal
@@ -178,6 +167,7 @@ reply_plain version (reply.Report report) h =
     (λ end. and_from _ _ (optional_plain report.least (and_parts _ _ both.1).0) (and_from _ _ (optional_plain report.floor (and_parts _ _ both.1).1) refl))))))
 reply_plain One (reply.Left quanta) h = cc
 reply_plain Two (reply.Left quanta) h = plain_decimals (quanta ∷ []) h
+reply_plain version other h = refl
 
 -- Entries ----------------------------------------------------------------------------------------
 

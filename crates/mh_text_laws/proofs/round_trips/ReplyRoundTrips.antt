@@ -9,9 +9,9 @@ use Rattle.mh_model.specs.declared.command.Control.TheVariants as control
 use Rattle.mh_model.specs.declared.reply.Reply.{Reply}
 use Rattle.mh_model.specs.declared.reply.Reply.TheVariants as reply
 use Rattle.mh_model.specs.declared.reply.Refusal.{Refusal}
-use Rattle.mh_model.specs.declared.reply.Refusal.TheVariants.{BadSlot, Null, NoField, TooLarge, HeapFull, Ended, TooManySessions}
+use Rattle.mh_model.specs.declared.reply.Refusal.TheVariants.{BadSlot}
 use Rattle.mh_model.specs.declared.cycle.Phase.{Phase}
-use Rattle.mh_model.specs.declared.cycle.Phase.TheVariants.{Idle, Roots, Mark, Sweep, Defrag}
+use Rattle.mh_model.specs.declared.cycle.Phase.TheVariants.{Idle}
 use Rattle.mh_model.specs.declared.dump.DumpItem.{DumpItem}
 use Rattle.mh_model.specs.declared.dump.DumpItem.TheVariants as item
 use Rattle.mh_model.specs.Bytes.{Text, parts_at, is_digit, number, tagged}
@@ -55,22 +55,16 @@ command_of-words command.End h = refl
 
 pub control_of-words : (version : Version) (c : Control) → knows_control version c ≡ true → is_sayable (control_phrase c) ≡ true
     → control_of version (phrase_words (control_phrase c)) ≡ Some c
-control_of-words version control.Quantum known h = refl
-control_of-words version control.Start known h = refl
-control_of-words version control.Stat known h = refl
-control_of-words version control.Dump known h = refl
 control_of-words One control.Left known h = cc
 control_of-words Two control.Left known h = refl
 control_of-words version (control.Report window) known h = numbered-words (u64 ∷ []) _ (window ∷ []) h refl
+control_of-words version other known h = refl
 
 -- Parts of replies -------------------------------------------------------------------------------
 
 phase_of-word : (phase : Phase) → phase_of (phase_word phase) ≡ Some phase
 phase_of-word Idle = refl
-phase_of-word Roots = refl
-phase_of-word Mark = refl
-phase_of-word Sweep = refl
-phase_of-word Defrag = refl
+phase_of-word other = refl
 
 flag_of-word : (flag : Bool) → flag_of (flag_word flag) ≡ Some flag
 flag_of-word true = refl
@@ -78,12 +72,7 @@ flag_of-word false = refl
 
 refused-words : (version : Version) (refusal : Refusal) → reply_of version (codes "refused" ∷ refusal_words refusal) ≡ Some (reply.Refused refusal)
 refused-words version BadSlot = refl
-refused-words version Null = refl
-refused-words version NoField = refl
-refused-words version TooLarge = refl
-refused-words version HeapFull = refl
-refused-words version Ended = refl
-refused-words version TooManySessions = refl
+refused-words version other = refl
 
 optional_of-word : (n : Option ℕ) → are_u64 (option_to_list n) ≡ true → optional_of (optional_word n) ≡ Some n
 optional_of-word None h = refl
@@ -167,9 +156,6 @@ items_from-words (item.Forwarder slot a b ∷ items) h =
 -- Replies ----------------------------------------------------------------------------------------
 
 pub reply_of-words : (version : Version) (r : Reply) → is_reply version r ≡ true → reply_of version (reply_words r) ≡ Some r
-reply_of-words version reply.Done h = refl
-reply_of-words version reply.Yes h = refl
-reply_of-words version reply.No h = refl
 reply_of-words version (reply.Number n) h = numbered-words (u64 ∷ []) _ (n ∷ []) h refl
 reply_of-words version (reply.Shape shape) h = numbered-words (u32 ∷ u32 ∷ []) _ (shape.references ∷ shape.numbers ∷ []) h refl
 reply_of-words version (reply.Refused refusal) h = refused-words version refusal
@@ -187,3 +173,4 @@ reply_of-words version (reply.Report report) h =
     rw (numbers-decimal (report.mutator ∷ report.collector ∷ report.quanta ∷ report.greatest ∷ report.window ∷ []) both.0, optional_of-word report.least two.0, optional_of-word report.floor two.1) refl
 reply_of-words One (reply.Left quanta) h = cc
 reply_of-words Two (reply.Left quanta) h = numbered-words (u64 ∷ []) _ (quanta ∷ []) h refl
+reply_of-words version other h = refl

@@ -37,7 +37,7 @@ module _ (config : Config) where
   unfolding machine_after
   record_in_range events known few = record_from events [] refl known (omega (arith, few))
 
-record_replies : (machine : Machine) (events : List Event) → map (λ measured. measured.entry.reply) (machine_record machine events) ≡ machine_replies machine events
+pub record_replies : (machine : Machine) (events : List Event) → map (λ measured. measured.entry.reply) (machine_record machine events) ≡ machine_replies machine events
 unfolding machine_record machine_replies
 record_replies machine [] = refl
 record_replies machine (e ∷ events) = ap (λ (replies : List Reply). (event_step machine e).reply ∷ replies) (record_replies (event_step machine e).state events)

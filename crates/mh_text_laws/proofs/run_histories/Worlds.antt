@@ -93,19 +93,11 @@ effect_small : (world : World) (who : ℕ) (c : Command) → is_sayable (command
 effect_small world who (command.New slot references numbers) said small =
     let counts = and_parts _ _ (and_parts _ _ said).1 in
     born_small world (own_slot who slot) (blank references numbers) (blank_small references numbers (ltb-true references u32 counts.0) (ltb-true numbers u32 (and_parts _ _ counts.1).0)) small
-effect_small world who (command.Get slot source field) said small = record { objects = small.objects }
 effect_small world who (command.Put slot field value) said small = change_small world (slot_at world (own_slot who slot)) _ (with_reference_small field (slot_at world (own_slot who value))) small
-effect_small world who (command.Copy slot source) said small = record { objects = small.objects }
-effect_small world who (command.Clear slot) said small = record { objects = small.objects }
-effect_small world who (command.Read slot index) said small = small
 effect_small world who (command.Write slot index number) said small =
     let below = ltb-true number u64 (and_parts _ _ (and_parts _ _ (and_parts _ _ said).1).1).0 in
     change_small world (slot_at world (own_slot who slot)) _ (λ object. with_number_small index number object below) small
-effect_small world who (command.Same left right) said small = small
-effect_small world who (command.Shape slot) said small = small
-effect_small world who (command.Post board slot) said small = record { objects = small.objects }
-effect_small world who (command.Take slot board) said small = record { objects = small.objects }
-effect_small world who command.End said small = record { objects = small.objects }
+effect_small world who asked said small = record { objects = small.objects }
 
 step_small : (world : World) (who : ℕ) (c : Command) → is_sayable (command_phrase c) ≡ true → IsSmallWorld world → IsSmallWorld (world_step world who c).state
 unfolding heap_step
@@ -137,19 +129,12 @@ answer_in_range false = refl
 
 effect_in_range : (world : World) (who : ℕ) (c : Command) → IsSmallWorld world → is_reply Two (effect world who c).reply ≡ true
 effect_in_range world who (command.New slot references numbers) small = refl
-effect_in_range world who (command.Get slot source field) small = refl
-effect_in_range world who (command.Put slot field value) small = refl
-effect_in_range world who (command.Copy slot source) small = refl
-effect_in_range world who (command.Clear slot) small = refl
 effect_in_range world who (command.Read slot index) small =
     let found = object_in world (own_slot who slot) in
     and_from _ _ (lt-ltb (number_of found index) u64 (number_small found index (λ object e. named_small world (slot_at world (own_slot who slot)) object small e))) refl
-effect_in_range world who (command.Write slot index number) small = refl
 effect_in_range world who (command.Same left right) small = answer_in_range _
 effect_in_range world who (command.Shape slot) small = shape_in_range (object_in world (own_slot who slot)) (λ object e. named_small world (slot_at world (own_slot who slot)) object small e)
-effect_in_range world who (command.Post board slot) small = refl
-effect_in_range world who (command.Take slot board) small = refl
-effect_in_range world who command.End small = refl
+effect_in_range world who asked small = refl
 
 step_in_range : (world : World) (who : ℕ) (c : Command) → IsSmallWorld world → is_reply Two (world_step world who c).reply ≡ true
 unfolding heap_step

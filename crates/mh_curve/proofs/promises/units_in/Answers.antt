@@ -1,5 +1,6 @@
 use Rattle.std.proofs.Common.{◌≡◌, ◌+◌, ◌-◌, ap, arith}
-use Rattle.mh_window_laws.proofs.StretchLemmas.{before, units_between}
+use Rattle.mh_window_laws.specs.Windows.{before}
+use Rattle.mh_window_laws.proofs.StretchLemmas.{units_between}
 use Rattle.mh_curve.proofs.promises.units_in.Goals as goal
 
 pub overflow_sub-result : goal.overflow_sub-result

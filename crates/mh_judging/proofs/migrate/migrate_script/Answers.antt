@@ -6,6 +6,7 @@ use Rattle.mh_judging.specs.Judgements.{verdict_of}
 use Rattle.mh_judging.proofs.ExplainedLemmas.{both_ok, check_explains}
 use Rattle.mh_judging.proofs.MigratedLemmas.{begins_to_migrate_nothing, begins_to_migrate_reads, migrates_reads, takes_short}
 use Rattle.mh_script.proofs.SourceLemmas.{history_bounded, reads_slice, wants_text}
+use Rattle.mh_judging.proofs.PromisedLemmas.{migration_promised}
 use Rattle.mh_judging.proofs.migrate.migrate_script.Goals as goal
 
 pub returns-in_err-text-clause-begun : goal.returns-in_err-text-clause-begun
@@ -15,6 +16,9 @@ pub returns-clause-migrated : goal.returns-clause-migrated
 returns-clause-migrated g c =
     let reads = reads_slice _ _ history_bounded _ _ _ _ c.as_slice.ensures.value c.in_ok-text.ensures.read c.in_ok-text.ensures.whole in
     IfOk-weaker c.write_migrated.result _ _ (λ found made. migrates_reads reads c.migrated_texts_are_legal.ensures _ c.requires.first _ _ (verdict_of found) made) c.write_migrated.ensures.done
+
+pub returns-clause-promise : goal.returns-clause-promise
+returns-clause-promise g c = IfOk-weaker c.write_migrated.result _ _ (migration_promised c.replies_are_promised.ensures _ _ _ _) (returns-clause-migrated g c)
 
 pub returns-clause-explained : goal.returns-clause-explained
 returns-clause-explained g c =

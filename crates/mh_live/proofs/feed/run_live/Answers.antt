@@ -1,8 +1,10 @@
 use Rattle.std.proofs.Common.{rules, arith, ◌≡◌, ◌<◌, ◌∙◌, [], ◌++◌, length, take, refl, length-append, length-take-le}
 use Rattle.std.proofs.KnownBytes.{Consumes-kept, Consumes-nil, Consumes-trans}
 use Rattle.std.proofs.lemmas.Result.{err_from_is_err_and}
+use Rattle.std.specs.Prelude.{Ok}
 use Rattle.mh_live.specs.Heard.{unended_refusal}
 use Rattle.mh_live.proofs.FeedLemmas.{all_answered, fed_none, fed_some, fed_untold, front_of_end, front_of_fed, front_of_some, no_read, read_ended, whole_of_fed}
+use Rattle.mh_live.proofs.PromiseLemmas.{keeps_live}
 use Rattle.mh_live.proofs.TurnLemmas.{heard_more}
 use Rattle.mh_live.proofs.feed.run_live.Goals as goal
 
@@ -19,6 +21,9 @@ returns-in_default-clause-prompt g c =
     let inv = c.loop.invariant.2 in
     λ _. whole_of_fed _ _ _ _ _ inv.0 c.loop.feed (Consumes-kept _ _ _ _ inv.1 c.in_default.ensures.kept) inv.2
 
+pub returns-in_default-clause-promise : goal.returns-in_default-clause-promise
+returns-in_default-clause-promise g c = λ waits. keeps_live c.replies_are_promised.ensures waits _ tt (returns-in_default-clause-begun g c) (returns-in_default-clause-prompt g c)
+
 pub returns-in_err-end-clause-begun : goal.returns-in_err-end-clause-begun
 returns-in_err-end-clause-begun g c =
     let inv = c.loop.invariant.2 in
@@ -31,6 +36,11 @@ returns-in_err-end-clause-prompt g c =
     let returned = err_from_is_err_and c.from_residual.result c.from_residual.ensures.1 in
     rw returned.1 (λ is. absurd (no_read _ returned.0 returned.2 is))
 
+pub returns-in_err-end-clause-promise : goal.returns-in_err-end-clause-promise
+returns-in_err-end-clause-promise g c =
+    let returned = err_from_is_err_and c.from_residual.result c.from_residual.ensures.1 in
+    λ waits. keeps_live c.replies_are_promised.ensures waits _ (rw returned.1 tt) (returns-in_err-end-clause-begun g c) (returns-in_err-end-clause-prompt g c)
+
 pub returns-in_err-end-clause-memory : goal.returns-in_err-end-clause-memory
 returns-in_err-end-clause-memory g c =
     let inv = c.loop.invariant.2 in
@@ -42,6 +52,9 @@ returns-then-count-eq0-clause-answered g c =
     let heard = heard_more g.L.Listener.hears g.met.L.Listener.onward c.args.listener.now c.loop.listener c.end.new.listener inv.2.refusals (unended_refusal c.loop.feed.number c.loop.feed.begun.items) inv.2.heard c.in_ok-end.ensures.told in
     all_answered _ _ _ _ _ _ _ inv.0 c.read.new.buffer c.in-Ok.count c.loop.feed inv.1 c.in-Ok.ensures.read (search rules) inv.2 (λ refusals. g.L.Listener.hears c.args.listener.now refusals c.end.new.listener) (c.in-Ok.ensures.end (search rules)) c.in_ok-end.ensures.done heard
 
+pub returns-then-count-eq0-clause-promise : goal.returns-then-count-eq0-clause-promise
+returns-then-count-eq0-clause-promise g c = λ waits. keeps_live c.replies_are_promised.ensures waits (Ok tt) (returns-then-count-eq0-clause-answered g c) tt (λ is. cc)
+
 pub returns-in_err-bytes-clause-begun : goal.returns-in_err-bytes-clause-begun
 returns-in_err-bytes-clause-begun g c =
     let inv = c.loop.invariant.2 in
@@ -52,6 +65,11 @@ pub returns-in_err-bytes-clause-prompt : goal.returns-in_err-bytes-clause-prompt
 returns-in_err-bytes-clause-prompt g c =
     let returned = err_from_is_err_and c.from_residual-in_err-bytes.result c.from_residual-in_err-bytes.ensures.1 in
     rw returned.1 (λ is. absurd (no_read _ returned.0 returned.2 is))
+
+pub returns-in_err-bytes-clause-promise : goal.returns-in_err-bytes-clause-promise
+returns-in_err-bytes-clause-promise g c =
+    let returned = err_from_is_err_and c.from_residual-in_err-bytes.result c.from_residual-in_err-bytes.ensures.1 in
+    λ waits. keeps_live c.replies_are_promised.ensures waits _ (rw returned.1 tt) (returns-in_err-bytes-clause-begun g c) (returns-in_err-bytes-clause-prompt g c)
 
 pub returns-in_err-bytes-clause-memory : goal.returns-in_err-bytes-clause-memory
 returns-in_err-bytes-clause-memory g c =
@@ -78,6 +96,9 @@ pub returns-clause-begun : goal.returns-clause-begun
 returns-clause-begun g c =
     let inv = c.loop.invariant.2 in
     front_of_fed _ _ _ _ _ _ inv.0 c.loop.feed refl inv.1 inv.2
+
+pub returns-clause-promise : goal.returns-clause-promise
+returns-clause-promise g c = λ waits. keeps_live c.replies_are_promised.ensures waits _ tt (returns-clause-begun g c) (λ is. cc)
 
 pub returns-clause-memory : goal.returns-clause-memory
 returns-clause-memory g c =

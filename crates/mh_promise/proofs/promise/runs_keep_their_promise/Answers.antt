@@ -1,15 +1,12 @@
-use Rattle.std.proofs.Common.{◌≡◌, ℕ, ◌≤◌, true, false, List, sym, ap, ◌∙◌, subst, length}
+use Rattle.std.proofs.Common.{◌≡◌, ℕ, ◌≤◌, true, false, sym, ap, ◌∙◌, subst, length}
 use Rattle.mh_model.specs.declared.command.Command.TheVariants as command
 use Rattle.mh_model.specs.declared.command.Control.TheVariants as control
-use Rattle.mh_model.specs.declared.command.Event.{Event}
 use Rattle.mh_model.specs.declared.command.Event.TheVariants as event
-use Rattle.mh_model.specs.declared.config.Config.{Config}
 use Rattle.mh_model.specs.declared.reply.Refusal.TheVariants.{HeapFull}
-use Rattle.mh_model.specs.declared.reply.Reply.{Reply}
 use Rattle.mh_model.specs.declared.reply.Reply.TheVariants as reply
 use Rattle.mh_model.specs.World.{first_world, world_step}
 use Rattle.mh_model.specs.Collector.{is_idle, quantum}
-use Rattle.mh_model.specs.Machine.{first_machine, half_step, event_step, machine_replies}
+use Rattle.mh_model.specs.Machine.{first_machine, half_step, event_step}
 use Rattle.mh_model.specs.Snapshot.{first_moment, half_moment, is_heap_full, snapshot_at}
 use Rattle.mh_model.specs.Invariant.{IsFinished, IsLinked}
 use Rattle.mh_model.specs.Paths.{Agrees}
@@ -17,27 +14,14 @@ use Rattle.mh_model.specs.View.{heap_view}
 use Rattle.mh_laws.specs.Bounds.{left_of}
 use Rattle.mh_run_laws.specs.Utilisation.{HasShare}
 use Rattle.mh_laws.proofs.bounds.CyclesInTime.{run-stays}
-use Rattle.mh_model.specs.Intervals as run
-use Rattle.mh_sizing_laws.specs.Triggers.{NeverFullIsTheWorld}
-use Rattle.mh_sizing_laws.specs.Made.{MakeOfKinds}
-use Rattle.mh_sizing_laws.specs.Needs.{StaysInRoom}
-use Rattle.mh_promise.specs.Promise.{HasRoom, NeverAnswersFull}
 use Rattle.mh_run_laws.specs.Replays.{machine_at, moment_at}
 use Rattle.mh_run_laws.proofs.runs.RunsByEvents.{after_more, replies-length}
 use Rattle.mh_run_laws.proofs.forwarders.RunForwarders.{event-quantum}
 use Rattle.mh_promise.proofs.AnsweredEvents.{answered-is, beside-is, session-reply, left-is, half-heap, half-machine}
 use Rattle.mh_run_laws.proofs.worlds.FullAlone.{full-alone, new-alone}
-use Rattle.mh_sizing_laws.proofs.needs.FullWorlds.{made_by_the_world}
+use Rattle.mh_run_laws.proofs.worlds.FullWorlds.{made_by_the_world}
 use Rattle.mh_promise.proofs.SpentUnits.{spent-is}
 use Rattle.mh_promise.proofs.promise.runs_keep_their_promise.Goals as goal
-
--- a run that is never full, by its replies
-never-full : (config : Config) (events : List Event) (replies : List Reply) → replies ≡ machine_replies (first_machine config) events → NeverFullIsTheWorld → run.IsNeverFull config events → NeverAnswersFull config events replies
-never-full config events replies are worlds never = subst (λ list. NeverAnswersFull config events list) (sym are) (record { none = never.replies; worlds = worlds config events never; flagged = never.flagged })
-
--- and one that stays in room
-has-room : (config : Config) (events : List Event) (replies : List Reply) (quanta opened : ℕ) → replies ≡ machine_replies (first_machine config) events → NeverFullIsTheWorld → StaysInRoom config events quanta opened → HasRoom config events replies quanta opened
-has-room config events replies quanta opened are worlds stays = record { cycles = stays.cycles; left = stays.left; never_full = never-full config events replies are worlds stays.never_full }
 
 pub returns : goal.returns
 returns c config events outcome is = record {
@@ -110,22 +94,6 @@ returns c config events outcome is = record {
     idle = λ before given answered idle.
         left-is c.quanta_left_end_the_cycle.ensures (machine_at config before) given (answered-is config events outcome.replies before (event.Control control.Left) given is.replies answered)
         ∙ ap reply.Left (c.quanta_left_end_the_cycle.ensures.none (machine_at config before) idle);
-  };
-  room = record {
-    bound = c.cycles_take_the_bound.ensures config events;
-    room = λ quanta opened some takes has. never-full config events outcome.replies is.replies c.never_full_is_the_world.ensures (c.room_suffices.ensures config events quanta opened some takes has);
-    needs = λ needs quanta make has.
-        has-room config events outcome.replies quanta needs.opened is.replies c.never_full_is_the_world.ensures (c.enough_for_needs_suffices.ensures needs config events quanta make has);
-    shared = λ needs filled kinds quanta make fills few has.
-        has-room config events outcome.replies quanta needs.opened is.replies c.never_full_is_the_world.ensures (c.sharp_enough_for_needs_suffices.ensures needs filled kinds config events quanta make fills few has);
-    started = λ needs anchored startup_pages quanta start rest stays split make within has.
-        has-room config events outcome.replies quanta needs.opened is.replies c.never_full_is_the_world.ensures
-        (subst (λ list. StaysInRoom config list quanta needs.opened) (sym split) (c.enough_after_startup_suffices.ensures needs anchored startup_pages config start rest stays quanta make within has));
-    started_shared = λ needs filled kinds anchored startup_pages quanta start rest stays split make fills few within has.
-        has-room config events outcome.replies quanta needs.opened is.replies c.never_full_is_the_world.ensures
-        (subst (λ list. StaysInRoom config list quanta needs.opened) (sym split)
-        (c.sharp_enough_after_startup_suffices.ensures needs filled kinds anchored startup_pages config start rest stays quanta make fills (subst (MakeOfKinds kinds config) split few) within has));
-    fits = λ few. never-full config events outcome.replies is.replies c.never_full_is_the_world.ensures (c.pages_for_footprint_suffice.ensures config events few);
   };
   share = λ often. subst (HasShare config) (sym is.trace) (c.mutator_has_its_share.ensures.after_events config events often);
 }

@@ -9,6 +9,7 @@ use Rattle.mh_model.specs.Script.{BadLine, Means}
 use Rattle.mh_judging.proofs.OfScript.AddedLines.{on_err}
 use Rattle.mh_race_text.proofs.RacedLemmas.{begins_to_race_nothing, begins_to_race_reads, races_reads, refuses_reads}
 use Rattle.mh_judging.proofs.OfScript.SourceLemmas.{reads_slice, refused_reason, script_bounded, wants_event, wants_script}
+use Rattle.mh_race_text.proofs.PromisedLemmas.{all_promised, fault_promised, some_promised}
 use Rattle.mh_race_text.proofs.race.race_script.Goals as goal
 
 pub returns-in_err-text-clause-begun : goal.returns-in_err-text-clause-begun
@@ -61,3 +62,22 @@ returns-in_err-write_race-in-Ok-clause-memory g c =
 pub returns-clause-memory : goal.returns-clause-memory
 returns-clause-memory g c =
     λ _. wants_event _ _ _ _ c.as_slice-bytes.ensures.value c.in_ok-text.ensures.read c.in_ok-text.ensures.whole (c.in-Err-NoMemory.ensures.memory (ap Err c.in-Err-NoMemory.field-0-is))
+
+pub returns-in_err-text-clause-promise : goal.returns-in_err-text-clause-promise
+returns-in_err-text-clause-promise g c =
+    fault_promised c.replies_are_promised.ensures _ _ _ _ _ c.from_residual.ensures.1 (begins_to_race_nothing _ _) (λ full. let never : ⊥ = rw full at c.in_err-text.ensures.blames in absurd never)
+
+pub returns-in_err-write_race-in-Ok-clause-promise : goal.returns-in_err-write_race-in-Ok-clause-promise
+returns-in_err-write_race-in-Ok-clause-promise g c =
+    let reads = reads_slice _ _ script_bounded _ _ _ _ c.as_slice-bytes.ensures.value c.in_ok-text.ensures.read c.in_ok-text.ensures.whole in
+    let begun = begins_to_race_reads reads (Means _) _ _ c.in-Ok.ensures.script c.in_err-write_race-in-Ok.ensures.begun in
+    fault_promised c.replies_are_promised.ensures _ _ _ _ _ c.from_residual-in_err-write_race-in-Ok.ensures.1 begun (λ full. races_reads reads IsRacedFull _ _ _ c.in-Ok.ensures.script (c.in_err-write_race-in-Ok.ensures.full (ap Err full)))
+
+pub returns-in-Ok-clause-promise : goal.returns-in-Ok-clause-promise
+returns-in-Ok-clause-promise g c = all_promised c.replies_are_promised.ensures _ _ _ (returns-in-Ok-clause-ends g c)
+
+pub returns-in-Err-Line-clause-promise : goal.returns-in-Err-Line-clause-promise
+returns-in-Err-Line-clause-promise g c = some_promised c.replies_are_promised.ensures _ _ _ (returns-in-Err-Line-clause-begun g c)
+
+pub returns-clause-promise : goal.returns-clause-promise
+returns-clause-promise g c = some_promised c.replies_are_promised.ensures _ _ _ (begins_to_race_nothing _ _)

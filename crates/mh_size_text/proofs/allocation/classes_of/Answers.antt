@@ -1,4 +1,4 @@
-use Rattle.std.proofs.Common.{◌≡◌, ◌∙◌, ℕ, Bool, true, false, filter, get_or, take, length-set, ap, sym, refl, arith}
+use Rattle.std.proofs.Common.{◌≡◌, ◌∙◌, ℕ, Bool, true, false, filter, get_or, take, length-set, ap, sym, arith}
 use Rattle.mh_model.specs.Classes.{class_sizes}
 use Rattle.mh_sizing.specs.OfClasses.Numbers.{class_number}
 use Rattle.mh_size_text.specs.Allocation.{classes_of}

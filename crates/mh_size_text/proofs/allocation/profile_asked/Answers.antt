@@ -1,10 +1,6 @@
-use Rattle.std.proofs.Common.{◌≡◌, ◌∙◌, List, ap, sym, refl, subst, arith}
-use Rattle.mh_model.specs.declared.config.Config.{Config}
-use Rattle.mh_model.specs.declared.command.Event.{Event}
+use Rattle.std.proofs.Common.{◌∙◌, ap, sym, subst, arith}
 use Rattle.mh_orders.specs.declared.allocation.Allocation.{Allocation}
-use Rattle.mh_orders.specs.declared.allocation.Allocation.TheVariants.{Counts, Rates, Classes}
 use Rattle.mh_sizing.specs.Counted.{KeepToClasses, KeepToCounts, profile_of_counts, profile_of_every}
-use Rattle.mh_sizing.specs.Openings.{parts_of_counts}
 use Rattle.mh_sizing.specs.Rates.{KeepToRates, profile_at_rates}
 use Rattle.mh_size_text.specs.Allocation.{KeepTo, classes_of, profile_asked, profile_of, rates_of}
 use Rattle.mh_size_text.specs.Blocks.{counts_of}

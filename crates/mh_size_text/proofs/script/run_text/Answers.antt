@@ -1,4 +1,4 @@
-use Rattle.std.proofs.Common.{◌≡◌, ◌++◌, [], Bool, false, append-nil, refl, sym, subst, ap, ◌∙◌}
+use Rattle.std.proofs.Common.{◌++◌, [], Bool, false, append-nil, refl, sym, subst, ap, ◌∙◌}
 use Rattle.std.specs.String.{string_bytes}
 use Rattle.mh_model.specs.Bytes.{Text}
 use Rattle.mh_size_text.specs.SeenTexts.{IsSeenText}

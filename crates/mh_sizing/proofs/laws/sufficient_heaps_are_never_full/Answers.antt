@@ -3,7 +3,7 @@ use Rattle.mh_model.specs.declared.command.Event.{Event}
 use Rattle.mh_model.specs.declared.config.Config.{Config}
 use Rattle.mh_model.specs.Classes.{Part}
 use Rattle.mh_model.specs.Intervals.{IsNeverFull}
-use Rattle.mh_sizing_laws.specs.Made.{MakeOfClasses, MakeOfKinds, footprint}
+use Rattle.mh_sizing_laws.specs.Made.{MakeOfClasses, footprint}
 use Rattle.mh_sizing_laws.specs.Needs.{HasSameScheduler, NeedsAreOfTheScheduler}
 use Rattle.mh_sizing_laws.specs.SharpPages.{fewest_slots, occurring}
 use Rattle.mh_sizing_laws.specs.Started.{StartedNeedsAreOfTheScheduler}
@@ -64,17 +64,16 @@ returns c = record {
   where
     after : (startup : Startup) (kinds : Kinds) (config : Config) (events : List Event) → KeepAfter startup kinds config events → IsEnoughAfter startup kinds config → IsNeverFull config events
     after startup kinds config events keep (many, inl own) =
-        subst (IsNeverFull config) (sym keep.parts) (c.enough_after_startup_suffices.ensures startup.needs startup.anchored startup.pages config keep.start keep.rest keep.stays many keep.needs keep.within own).never_full
+        ((c.each_run_has_its_room.ensures config events).started startup.needs startup.anchored startup.pages many keep.start keep.rest keep.stays keep.parts keep.needs keep.within own).never_full
     after startup kinds config events keep (many, inr shared) =
-        subst (IsNeverFull config) (sym keep.parts)
-        (c.sharp_enough_after_startup_suffices.ensures startup.needs startup.filled kinds.kinds startup.anchored startup.pages config keep.start keep.rest keep.stays many keep.needs keep.filled (subst (MakeOfKinds kinds.kinds config) keep.parts keep.classes.classes) keep.within shared).never_full
+        ((c.each_run_has_its_room.ensures config events).started_shared startup.needs startup.filled kinds.kinds startup.anchored startup.pages many keep.start keep.rest keep.stays keep.parts keep.needs keep.filled keep.classes.classes keep.within shared).never_full
 
     after-known : (known : Option Startup) (kinds : Kinds) (config : Config) (events : List Event) → IfSome known (λ startup. KeepAfter startup kinds config events) → IsSomeAnd known (λ startup. IsEnoughAfter startup kinds config) → IsNeverFull config events
     after-known None kinds config events keep enough = elim enough [ ]
     after-known (Some startup) kinds config events keep enough = after startup kinds config events keep enough
 
     enough : (profile : Profile) (config : Config) (events : List Event) → KeepToProfile profile config events → Suffices profile config → IsNeverFull config events
-    enough profile config events keep (inl all) = c.pages_for_footprint_suffice.ensures config events (footprint-fits profile.footprint (footprint config events) config.pages keep.footprints all)
-    enough profile config events keep (inr (inl (many, inl alone))) = (c.enough_for_needs_suffices.ensures profile.needs config events many keep.needs alone).never_full
-    enough profile config events keep (inr (inl (many, inr shared))) = (c.sharp_enough_for_needs_suffices.ensures profile.needs profile.filled profile.kinds.kinds config events many keep.needs keep.filled keep.kinds.classes shared).never_full
+    enough profile config events keep (inl all) = (c.each_run_has_its_room.ensures config events).fits (footprint-fits profile.footprint (footprint config events) config.pages keep.footprints all)
+    enough profile config events keep (inr (inl (many, inl alone))) = ((c.each_run_has_its_room.ensures config events).needs profile.needs many keep.needs alone).never_full
+    enough profile config events keep (inr (inl (many, inr shared))) = ((c.each_run_has_its_room.ensures config events).shared profile.needs profile.filled profile.kinds.kinds many keep.needs keep.filled keep.kinds.classes shared).never_full
     enough profile config events keep (inr (inr started)) = after-known profile.startup profile.kinds config events keep.started started

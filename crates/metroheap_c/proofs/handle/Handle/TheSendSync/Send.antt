@@ -19,9 +19,8 @@ use Rattle.metroheap_c.specs.contracts.handle.Handle.{the_row, the_type}
 
 keyless : (a : Global) (p : Ptr) (v : Option Kept) → Keyless (handle_owns a p v)
 keyless a null_ptr None = tt
-keyless a null_ptr (Some x) = tt
-keyless a (block_ptr b o) None = tt
 keyless a (block_ptr b o) (Some x) = (lies Embedded.the_row embedded (block_ptr b o) x, heap.frees.frees a (raw (lone Embedded.the_row.mir)) (block_ptr b o))
+keyless a at kept = tt
 
 pub send : IsSend the_row
 send =

@@ -1,55 +1,40 @@
-use Rattle.std.proofs.Common.{ap, arith}
+use Rattle.std.proofs.Common.{ap, rules, arith}
 use Rattle.mh_model.specs.declared.command.Command.TheVariants as command
 use Rattle.mh_model.specs.declared.reply.Reply.TheVariants as reply
-use Rattle.mh_model.specs.Mutator.{HeapState}
-use Rattle.mh_paged.specs.Kept.{Steps, heap_of}
+use Rattle.mh_model.specs.Mutator.{HeapState, heap_effect, mutator_step}
+use Rattle.mh_paged.specs.Kept.{heap_of}
 use Rattle.mh_table_laws.proofs.marking.BatchMarking.{leads_of}
 use Rattle.mh_paged.proofs.FieldLemmas.{field-original}
-use Rattle.mh_paged.proofs.KeptLemmas.{found-field, kept-after}
-use Rattle.mh_paged.proofs.StepLemmas.{is-open, is-passed, put-steps}
+use Rattle.mh_paged.proofs.KeptLemmas.{found-field, keeps-each, kept-after}
 use Rattle.mh_paged.proofs.kept.KeptHeap.put.Goals as goal
 
 pub place_of-at-requires : goal.place_of-at-requires
 place_of-at-requires c =
     let found = rw (← c.self.view_is) at c.in_ok-found.ensures in
-    (found-field c.collectors_stay_steady.ensures c.fields_are_found.ensures _ _ _ c.self.invariant _ _ found.2 c.in_ok-field.field (omega (arith, c.in_ok-field.ensures.within))).findable
+    (found-field c.laws_of_commands.ensures.steady c.fields_are_found.ensures _ _ _ c.self.invariant _ _ found.2 c.in_ok-field.field (omega (arith, c.in_ok-field.ensures.within))).findable
 
 pub write_reference-requires-clause-there : goal.write_reference-requires-clause-there
 write_reference-requires-clause-there c =
     let found = rw (← c.self.view_is) at c.in_ok-found.ensures in
-    let has = (found-field c.collectors_stay_steady.ensures c.fields_are_found.ensures _ _ _ c.self.invariant _ _ found.2 c.in_ok-field.field (omega (arith, c.in_ok-field.ensures.within))).has in
+    let has = (found-field c.laws_of_commands.ensures.steady c.fields_are_found.ensures _ _ _ c.self.invariant _ _ found.2 c.in_ok-field.field (omega (arith, c.in_ok-field.ensures.within))).has in
     rw c.place_of-at.ensures (has.reference c.in_ok-field.ensures.within)
 
 pub write_reference-requires-clause-original : goal.write_reference-requires-clause-original
 write_reference-requires-clause-original c =
     let heap : HeapState = heap_of c.self.inside.cycle c.self.inside.next_birth c.self.inside.ended in
     let found = rw (← c.self.view_is) at c.in_ok-found.ensures in
-    let has = (found-field c.collectors_stay_steady.ensures c.fields_are_found.ensures _ _ _ c.self.invariant _ _ found.2 c.in_ok-field.field (omega (arith, c.in_ok-field.ensures.within))).has in
+    let has = (found-field c.laws_of_commands.ensures.steady c.fields_are_found.ensures _ _ _ c.self.invariant _ _ found.2 c.in_ok-field.field (omega (arith, c.in_ok-field.ensures.within))).has in
     rw c.place_of-at.ensures (field-original heap.collector c.in_ok-found.found.place c.in_ok-found.found.shape c.in_ok-field.field has)
 
 pub write_reference-requires-clause-leads : goal.write_reference-requires-clause-leads
 write_reference-requires-clause-leads c =
     let heap : HeapState = heap_of c.self.inside.cycle c.self.inside.next_birth c.self.inside.ended in
-    rw c.root-reference.ensures (leads_of heap.collector.table _ (c.references_lead_on.ensures.slots heap.collector (c.collectors_stay_steady.ensures.of_heaps heap c.self.invariant.keeping) c.in_ok-value.value).on)
+    rw c.root-reference.ensures (leads_of heap.collector.table _ (c.references_lead_on.ensures.slots heap.collector (c.laws_of_commands.ensures.steady.of_heaps heap c.self.invariant.keeping) c.in_ok-value.value).on)
 
 pub invariant_of-self : goal.invariant_of-self
-invariant_of-self c =
-    let heap : HeapState = heap_of c.self.inside.cycle c.self.inside.next_birth c.self.inside.ended in
-    let new : HeapState = heap_of c.write_reference.new.cycle c.self.inside.next_birth c.self.inside.ended in
-    let found = rw (← c.self.view_is) at c.in_ok-found.ensures in
-    let seat = is-open heap c.args.who c.in_ok-session.session (rw (← c.self.view_is) at c.in_ok-session.ensures.step) in
-    let steps : Steps heap c.args.who (command.Put c.args.slot c.args.field c.args.value) reply.Done new =
-    rw (c.write_reference.ensures, c.place_of-at.ensures, c.root-reference.ensures)
-    (put-steps c.commands_are_answered.ensures heap c.args.who c.in_ok-session.session seat c.args.slot c.args.field c.args.value c.in_ok-slot.slot c.in_ok-found.found.place c.in_ok-field.field c.in_ok-value.value c.in_ok-found.found.shape (is-passed _ _ _ _ c.in_ok-slot.ensures.step) (is-passed _ _ _ _ c.in_ok-value.ensures.step) found.0 found.1 (is-passed _ _ _ _ c.in_ok-field.ensures.step)) in
-    kept-after c.heaps_stay_kept.ensures c.collectors_stay_in_bounds.ensures _ _ _ _ _ _ c.self.invariant (ap (λ s. s.config) c.write_reference.ensures) c.args.who (command.Put c.args.slot c.args.field c.args.value) reply.Done steps
+unfolding mutator_step heap_effect
+invariant_of-self c = kept-after c.laws_of_commands.ensures.kept c.laws_of_commands.ensures.bounds _ _ _ _ _ _ c.self.invariant (ap (λ s. s.config) c.write_reference.ensures) c.args.who (command.Put c.args.slot c.args.field c.args.value) reply.Done (search rules)
 
-pub returns : goal.returns
-returns c =
-    let heap : HeapState = heap_of c.self.inside.cycle c.self.inside.next_birth c.self.inside.ended in
-    let new : HeapState = heap_of c.write_reference.new.cycle c.self.inside.next_birth c.self.inside.ended in
-    let found = rw (← c.self.view_is) at c.in_ok-found.ensures in
-    let seat = is-open heap c.args.who c.in_ok-session.session (rw (← c.self.view_is) at c.in_ok-session.ensures.step) in
-    let steps : Steps heap c.args.who (command.Put c.args.slot c.args.field c.args.value) reply.Done new =
-    rw (c.write_reference.ensures, c.place_of-at.ensures, c.root-reference.ensures)
-    (put-steps c.commands_are_answered.ensures heap c.args.who c.in_ok-session.session seat c.args.slot c.args.field c.args.value c.in_ok-slot.slot c.in_ok-found.found.place c.in_ok-field.field c.in_ok-value.value c.in_ok-found.found.shape (is-passed _ _ _ _ c.in_ok-slot.ensures.step) (is-passed _ _ _ _ c.in_ok-value.ensures.step) found.0 found.1 (is-passed _ _ _ _ c.in_ok-field.ensures.step)) in
-    rw (← c.self.view_is) steps
+pub returns-clause-keeps : goal.returns-clause-keeps
+unfolding mutator_step heap_effect
+returns-clause-keeps c = keeps-each c.laws_of_commands.ensures.snapshot c.args.self.now (heap_of c.write_reference.new.cycle c.self.inside.next_birth c.self.inside.ended) c.args.who (command.Put c.args.slot c.args.field c.args.value) reply.Done (search rules)

@@ -1,0 +1,56 @@
+-- What calls on a machine promise, from its opening on: the replies that they gave are those of an outcome that keeps the promise, also if the trace was
+-- forgotten between them.
+use Rattle.std.specs.Prelude.{◌≡◌, ℕ, Bool, Some, List, [], ◌∷◌, ◌++◌, length}
+use Rattle.mh_model.specs.declared.command.Control.TheVariants as control
+use Rattle.mh_model.specs.declared.command.Event.{Event}
+use Rattle.mh_model.specs.declared.command.Event.TheVariants as event
+use Rattle.mh_model.specs.declared.config.Config.{Config}
+use Rattle.mh_model.specs.declared.reply.Reply.{Reply}
+use Rattle.mh_model.specs.declared.reply.Reply.TheVariants as reply
+use Rattle.mh_model.specs.Machine.{Machine, event_step, first_machine, machine_after, report_on}
+use Rattle.mh_model.specs.Trace.{TraceState}
+use Rattle.mh_promise.specs.Promise.{ArePromised}
+use Rattle.mh_trace_laws.specs.Forgetting.{IsEndOf, KeepsPromise, Recalls}
+use Rattle.mh_embed.specs.declared.driver.Driver.TheVariants.{Collects}
+use Rattle.mh_embed.specs.declared.status.Status.{Status}
+use Rattle.mh_embed.specs.Drivers.{Collected}
+use Rattle.mh_embed.specs.Driving.{Driven, Takes}
+use Rattle.mh_embed.specs.Endings.{ForgetEnds, ReserveEnds, TellEnds}
+
+-- One call did this event and gave it this reply, or it did none. Then it asked for deeds or for room, or had the trace forgotten, or left what is
+-- driven as it was
+pub data IsCall (old new : Driven) : List Event → List Reply → Type 0 where
+  Does : (event : Event) (given : Reply) → Takes old.driver event given new.driver → new.reply ≡ Some given → IsCall old new (event ∷ []) (given ∷ [])
+  Tells : (tells : Bool) (ends : Status) → TellEnds old tells new ends → IsCall old new [] []
+  Reserves : (room : ℕ) (ends : Status) → ReserveEnds old room new ends → IsCall old new [] []
+  Forgets : (ends : Status) → ForgetEnds old new ends → IsCall old new [] []
+  Leaves : new ≡ old → IsCall old new [] []
+
+-- one call, whatever it did
+abbrev pub IsOneCall : Driven → Driven → Type 0
+IsOneCall old new = (events : List Event) × (replies : List Reply) × IsCall old new events replies
+
+-- calls in turn on what was opened did these events and gave them these replies, and this is driven then
+pub data AreCalls (first : Driven) : List Event → List Reply → Driven → Type 0 where
+  Opened : AreCalls first [] [] first
+  Called : (events : List Event) (replies : List Reply) (more : List Event) (given : List Reply) (old new : Driven) → AreCalls first events replies old → IsCall old new more given → AreCalls first (events ++ more) (replies ++ given) new
+
+-- these replies to the events are a machine's, but that a report may be of an end of its trace. It keeps the promise of the configuration then too
+pub data AreRecalled (config : Config) : Machine → List Event → List Reply → Type 0 where
+  NoneYet : (machine : Machine) → AreRecalled config machine [] []
+  Same : (machine : Machine) (event : Event) (events : List Event) (replies : List Reply) → AreRecalled config (event_step machine event).state events replies
+      → AreRecalled config machine (event ∷ events) ((event_step machine event).reply ∷ replies)
+  Reported : (machine : Machine) (window : ℕ) (end : TraceState) (events : List Event) (replies : List Reply) → IsEndOf machine.trace end → KeepsPromise config (report_on config end window)
+      → AreRecalled config (event_step machine (event.Control (control.Report window))).state events replies
+      → AreRecalled config machine (event.Control (control.Report window) ∷ events) (reply.Report (report_on config end window) ∷ replies)
+
+-- These events were done and given these replies, and this is driven then. It is the machine after them, but that it may have forgotten how its trace
+-- begins, so its heap is that machine's. The replies are the machine's, but for reports, and those of an outcome that keeps the promise
+pub record IsDrivenAsPromised (config : Config) (events : List Event) (replies : List Reply) (driven : Driven) : Type 0 where
+  pub collected : Collected
+  pub drives : driven.driver ≡ Collects collected
+  pub done : collected.machine.done ≡ length events
+  pub recalls : Recalls (machine_after (first_machine config) events) collected.machine.machine
+  pub heap : collected.machine.machine.heap ≡ (machine_after (first_machine config) events).heap
+  pub recalled : AreRecalled config (first_machine config) events replies
+  pub promise : ArePromised config events replies

@@ -1,0 +1,35 @@
+-- What a judge promises of a history that it finds legal: the replies in it are those of an outcome that keeps the promise.
+use Rattle.std.specs.Prelude.{◌≡◌, ℕ, map, length, Option}
+use Rattle.mh_model.specs.declared.config.Config.{Config}
+use Rattle.mh_model.specs.declared.history.Entry.{Entry}
+use Rattle.mh_model.specs.Bytes.{Text}
+use Rattle.mh_model.specs.Script.{Reading, Means}
+use Rattle.mh_promise.specs.Promise.{ArePromised}
+use Rattle.mh_judging.specs.declared.judgement.Judgement.{Judgement}
+use Rattle.mh_judging.specs.declared.judgement.Judgement.TheVariants.{Legal}
+use Rattle.mh_judging.specs.Histories.{History, own_reading, reading_under}
+use Rattle.mh_script.specs.Texts.{IsTextOf, Writes}
+
+-- A history of so many entries was read, whose replies are those of an outcome that keeps the promise of their events
+pub record IsPromisedHistory {X : Type 0} (entry_of : X → Entry) (read : Reading (History X)) (count : ℕ) : Type 0 where
+  pub history : History X
+  pub means : read ≡ Means history
+  pub count_is : count ≡ length history.entries
+  pub promised : ArePromised history.config (map (λ x. (entry_of x).event) history.entries) (map (λ x. (entry_of x).reply) history.entries)
+
+-- a text of version 1 is such a history under a configuration
+abbrev pub IsPromisedUnder : Config → Text → ℕ → Type 0
+IsPromisedUnder config text count = IsPromisedHistory (λ entry. entry) (reading_under config text) count
+
+-- a text of version 2 is such a history under its own
+abbrev pub IsPromisedRecord : Text → ℕ → Type 0
+IsPromisedRecord text count = IsPromisedHistory (λ measured. measured.entry) (own_reading text) count
+
+-- If a judgement finds the text of a source legal, this holds of it, with as many entries
+abbrev pub HoldsIfLegal : (Text → ℕ → Type 0) → Option Text → Judgement → Type 0
+HoldsIfLegal Holds known (Legal count) = (text : Text) × IsTextOf known text × Holds text count
+HoldsIfLegal Holds known judgement = Unit {0}
+
+-- A legal history is promised, and so is what was written of it
+abbrev pub IsPromisedMigration : Config → (known old new : Option Text) → Judgement → Type 0
+IsPromisedMigration config known old new = HoldsIfLegal (λ text count. IsPromisedUnder config text count × Writes (λ written. IsPromisedRecord written count) old new) known
