@@ -3,7 +3,7 @@ _metroheap() {
     local word=${COMP_WORDS[COMP_CWORD]} options=
     case ${COMP_WORDS[COMP_CWORD - 1]} in
         # A number follows.
-        --workers | --pages | --quantum | --trigger | --every | --seed | --events | --from | --to | --allocates | --rate | --classes | --parts | --live | --references | --target | --window | --startup | --controls | --longest | --keeps) return ;;
+        --workers | --pages | --quantum | --trigger | --every | --seed | --events | --from | --to | --used | --rate | --parts | --quanta | --target | --window | --controls | --longest | --keeps) return ;;
         --rules)
             mapfile -t COMPREPLY < <(compgen -W '1 2' -- "$word")
             return
@@ -24,7 +24,7 @@ _metroheap() {
         migrate) options='--pages --quantum --trigger --every --help' ;;
         audit) options='--help' ;;
         curve) options='--history --pauses --svg --every --quantum --longest --keeps --rules --help' ;;
-        size) options='--pages --every --quantum --allocates --rate --classes --parts --live --references --target --window --rules --startup --run --help' ;;
+        size) options='--rules --window --used --every --rate --parts --quanta --quantum --target --help' ;;
         generate)
             # Here a number follows, as it doesn't after the `--sessions` of `check`.
             [[ ${COMP_WORDS[COMP_CWORD - 1]} == --sessions ]] && return

@@ -1,6 +1,6 @@
 //! Tests of calls, below texts and above: words of pages, blocks, roots, the grey list, steps of the sweep and numbers that size a
-//! heap; the heaps that never collect, quanta, runs, judges, words that are quoted, random scripts and logs of pauses; draws, crews, locks and
-//! services in several threads; and what each part does when memory is refused to it.
+//! heap; heaps that never collect, quanta, runs, what is seen of runs in other heaps, judges, quoted words, random scripts and
+//! logs of pauses; draws, crews, locks and services in several threads; and what each part does when memory is refused to it.
 //!
 //! They are one crate, since most of what a crate of tests costs is building all that it stands on.
 #![tactic(auto)]
@@ -40,8 +40,6 @@ mod marks;
 #[cfg(test)]
 mod mix_tests;
 #[cfg(test)]
-mod needs_tests;
-#[cfg(test)]
 mod opening_tests;
 #[cfg(test)]
 mod page_tests;
@@ -70,9 +68,7 @@ mod seen_tests;
 #[cfg(test)]
 mod service_tests;
 #[cfg(test)]
-mod shadow_tests;
-#[cfg(test)]
-mod sizing_tests;
+mod size_tests;
 #[cfg(test)]
 mod starved_run_tests;
 #[cfg(test)]

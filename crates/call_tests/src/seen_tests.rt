@@ -1,91 +1,335 @@
-//! What is seen of runs. The numbers are those of the definitions as a program, which ran both scripts in heaps of 1 to 9
-//! pages.
+//! What is seen of runs in heaps of other sizes. The numbers are those of the definitions as a program, which ran the
+//! scripts and tried each number of pages from 1 on.
+ghost use Rattle.std.specs.Prelude.{◌≤◌, length, IfOk};
+ghost use Rattle.mh_model.specs.Limits.{most_entries};
 
+use mh_model::command::Event;
+use mh_model::config::Config;
 use mh_model::limits::MOST_ENTRIES;
+use mh_model::report::Report;
 use mh_scan::scan::OneScan;
-use mh_seen::fewest::{fewest_seen, with_pages};
-use mh_seen::full::is_never_full;
-use mh_seen::seen::{Seen, seen_of};
-use mh_text::script::parse;
+use mh_seen::edge::{Edge, Fewest};
+use mh_seen::fewest::fewest;
+use mh_seen::full::first_full;
+use mh_seen::live::{Live, live_of};
+use mh_seen::rows::{Outcome, outcome_of};
+use mh_seen::seen::{HasRoom, Seen, seen_of};
+use mh_seen::tried::{Tried, try_triggers};
+use mh_text::script::{Script, parse};
 use std::alloc::Global;
+use std::fmt::Write;
 use std::test::Fail;
 
-/// Objects of which four fill a page, while a cycle runs. Then the slots are cleared, and another runs. It is full in 1 to 5
-/// pages.
-const CLEARED: &[u8] =
-    b"config 5 209 1 3\na new 0 60 0\na new 1 60 0\na new 0 60 0\na new 0 60 0\na new 1 60 0\na new 5 60 0\na new 6 60 0\na new 7 60 0\na new 1 60 0\na new 0 60 0\na new 10 60 0\na new 11 60 0\na new 12 60 0\na new 3 60 0\na new 14 60 0\na new 15 60 0\na new 0 60 0\na new 0 60 0\na new 3 60 0\na new 1 60 0\na new 4 60 0\na clear 0\na clear 1\na clear 2\na clear 3\na clear 4\na clear 5\na clear 6\na clear 7\na clear 8\na clear 9\na clear 10\na clear 11\na clear 12\na clear 13\na clear 0\n";
-
-/// It is full in 1, 2 and 4 pages, and not in 3.
-const UNEVEN: &[u8] =
-    b"config 9 209 1 2\na new 0 0 60\na new 0 0 60\na clear 10\na new 3 0 60\na new 1 0 60\na clear 1\na new 6 0 60\na clear 6\na new 3 0 60\na clear 13\na new 10 0 60\na new 11 0 60\na new 1 0 60\na new 1 0 60\na clear 6\na clear 10\na new 1 0 60\na new 2 0 60\na new 2 0 60\na new 3 0 60\na new 4 0 60\na new 5 0 60\na new 3 0 60\na new 1 0 60\na new 0 0 60\na new 9 0 60\na new 10 0 60\na new 1 0 60\na clear 15\na new 13 0 60\na new 14 0 60\na new 15 0 60\n";
-
-/// What is seen of a script in so many pages, whether it is never full in them, and the pages at which a search from them
-/// ends.
-type Facts = (Seen, bool, Option<u32>);
-
-#[tactic(auto, unfolding(mh_model::specs::Limits::most_entries))]
-fn facts_in(alloc: Global, text: &[u8], pages: u32) -> Result<Option<Facts>, Fail> {
-    let script = parse(alloc, text)?;
-    let events = script.events();
-    let Some(heap) = with_pages(&script.config(), pages) else {
-        return Ok(None);
-    };
-    if events.len() as u64 > MOST_ENTRIES {
-        return Ok(None);
+/// The script of so many objects, made in the first slots in turn.
+fn in_turn(
+    alloc: Global,
+    config: &str,
+    slots: u32,
+    fields: &str,
+    count: u32,
+) -> Result<Script, Fail>
+    requires { 1 ≤ slots }
+{
+    let mut text = config.to_string(alloc)?;
+    for number in 0..count {
+        let slot = number % slots;
+        writeln!(text, "a new {slot} {fields}")?;
     }
-    let mut scanner = OneScan::new(alloc);
-    let seen = seen_of(alloc, heap, events, &mut scanner)?;
-    let is_never_full = is_never_full(alloc, heap, events, &mut scanner)?;
-    let fewest = fewest_seen(alloc, heap, events, &mut scanner)?;
-    Ok(Some((seen, is_never_full, fewest)))
+    Ok(parse(alloc, text.as_bytes())?)
 }
 
+/// Objects of which four fill a page and seven are live, with a quantum after each three.
+fn seven(alloc: Global, count: u32) -> Result<Script, Fail> {
+    in_turn(alloc, "config 5 209 1 3\n", 7, "60 0", count)
+}
+
+/// Objects of which 32 fill a page and sixteen are live, with a quantum after each fifty.
+fn sixteen(alloc: Global, count: u32) -> Result<Script, Fail> {
+    in_turn(alloc, "config 64 400 32 50\n", 16, "0 4", count)
+}
+
+/// The events of a script, of which there are few.
+#[tactic(auto, unfolding(mh_model::specs::Limits::most_entries))]
+fn few_events(script: &Script) -> Result<&[Event], Fail>
+    ensures { IfOk result (λ events. length events.now ≤ most_entries) }
+{
+    let events = script.events();
+    if events.len() as u64 > MOST_ENTRIES {
+        return Err("too many events")?;
+    }
+    Ok(events)
+}
+
+/// The first event that is answered by a full heap.
+fn first_full_of(alloc: Global, script: &Script) -> Result<Option<u64>, Fail> {
+    let events = few_events(script)?;
+    let mut scanner = OneScan::new(alloc);
+    Ok(first_full(alloc, script.config(), events, &mut scanner)?)
+}
+
+/// Two pages hold eight objects of 64 words, and no cycle runs.
 #[test]
-fn a_run_is_seen(rt: HostRuntime) -> Result<(), Fail> {
-    let seen = Seen {
-        cycles: 2,
-        quanta: 5,
-        free: 0,
-        in_use: 4,
-        refused: 1,
-    };
-    assert_eq!(rt;
-        facts_in(rt.alloc(), CLEARED, 5)?,
-        Some((seen, false, None))
-    );
+fn the_first_full_reply_is_found(rt: HostRuntime) -> Result<(), Fail> {
+    let alloc = rt.alloc();
+    let config = "config 2 209 0 0\n";
+    let ten = first_full_of(alloc, &in_turn(alloc, config, 10, "60 0", 10)?)?;
+    let eight = first_full_of(alloc, &in_turn(alloc, config, 8, "60 0", 8)?)?;
+    assert_eq!(rt; (ten, eight), (Some(9), None));
     Ok(())
 }
 
-/// In 6 pages the only cycle has had 7 quanta at the end, and runs on.
+/// What trying five triggers comes to.
+fn tried_in(alloc: Global, script: &Script, pages: u32) -> Result<Tried, Fail>
+    requires { (1 ≤ pages) × (pages ≤ 4096) }
+{
+    let events = few_events(script)?;
+    let mut scanner = OneScan::new(alloc);
+    Ok(try_triggers(alloc, &script.config(), events, pages, &mut scanner)?)
+}
+
+/// In seven pages an eighth and a quarter are too low, and a half isn't.
 #[test]
-fn a_running_cycle_is_seen(rt: HostRuntime) -> Result<(), Fail> {
+fn triggers_are_tried(rt: HostRuntime) -> Result<(), Fail> {
+    let alloc = rt.alloc();
+    let script = seven(alloc, 60)?;
+    let tried = [tried_in(alloc, &script, 6)?, tried_in(alloc, &script, 7)?];
+    assert_eq!(rt; tried, [Tried::Full(29), Tried::Fits(3)]);
+    Ok(())
+}
+
+/// What a search for the fewest pages comes to.
+fn fewest_of(alloc: Global, script: &Script) -> Result<Fewest, Fail> {
+    let events = few_events(script)?;
+    let mut scanner = OneScan::new(alloc);
+    Ok(fewest(alloc, &script.config(), events, &mut scanner)?)
+}
+
+/// Each search ends at the fewest pages of all.
+#[test]
+fn fewest_pages_are_found(rt: HostRuntime) -> Result<(), Fail> {
+    let alloc = rt.alloc();
+    let found = [
+        fewest_of(alloc, &seven(alloc, 60)?)?,
+        fewest_of(alloc, &sixteen(alloc, 60)?)?,
+        fewest_of(alloc, &sixteen(alloc, 1)?)?,
+    ];
+    let expected = [
+        Fewest::Found(Edge {
+            pages: 7,
+            trigger: 3,
+            below: Some(29),
+        }),
+        Fewest::Found(Edge {
+            pages: 2,
+            trigger: 0,
+            below: Some(33),
+        }),
+        Fewest::Found(Edge {
+            pages: 1,
+            trigger: 0,
+            below: None,
+        }),
+    ];
+    assert_eq!(rt; found, expected);
+    Ok(())
+}
+
+/// A loop that goes on wants no more pages.
+#[test]
+fn a_longer_loop_has_the_same_pages(rt: HostRuntime) -> Result<(), Fail> {
+    let alloc = rt.alloc();
+    let edge = Edge {
+        pages: 4,
+        trigger: 0,
+        below: Some(181),
+    };
+    let found = [
+        fewest_of(alloc, &sixteen(alloc, 1000)?)?,
+        fewest_of(alloc, &sixteen(alloc, 3000)?)?,
+    ];
+    assert_eq!(rt; found, [Fewest::Found(edge), Fewest::Found(edge)]);
+    Ok(())
+}
+
+/// Four objects of 3,661 blocks fill 3,661 pages. The fifth would want 916 more.
+#[test]
+fn some_scripts_fit_nowhere(rt: HostRuntime) -> Result<(), Fail> {
+    let alloc = rt.alloc();
+    let script = in_turn(alloc, "config 1 209 0 0\n", 5, "216000 0", 5)?;
+    assert_eq!(rt; fewest_of(alloc, &script)?, Fewest::Nowhere(5));
+    Ok(())
+}
+
+/// A list that grows at its head.
+fn leak(alloc: Global) -> Result<Script, Fail> {
+    let mut text = "config 64 400 32 10\na new 0 1 3\n".to_string(alloc)?;
+    for _ in 0..40u32 {
+        text.push_str("a new 1 1 3\na put 1 0 0\na copy 0 1\n")?;
+    }
+    Ok(parse(alloc, text.as_bytes())?)
+}
+
+/// What is live in a run.
+fn live_in(alloc: Global, script: &Script) -> Result<Live, Fail> {
+    let events = few_events(script)?;
+    let mut scanner = OneScan::new(alloc);
+    Ok(live_of(alloc, &script.config(), events, &mut scanner)?)
+}
+
+/// The quarters of a leak grow, those of a loop don't.
+#[test]
+fn quarters_tell_a_leak(rt: HostRuntime) -> Result<(), Fail> {
+    let alloc = rt.alloc();
+    let live = [
+        live_in(alloc, &leak(alloc)?)?,
+        live_in(alloc, &sixteen(alloc, 1000)?)?,
+        live_in(alloc, &sixteen(alloc, 60)?)?,
+    ];
+    let expected = [
+        Live {
+            quarters: Some([11, 21, 31, 41]),
+            units: 121,
+            objects: 41,
+        },
+        Live {
+            quarters: Some([16, 16, 16, 16]),
+            units: 1000,
+            objects: 1000,
+        },
+        Live {
+            quarters: Some([0, 0, 0, 16]),
+            units: 60,
+            objects: 60,
+        },
+    ];
+    assert_eq!(rt; live, expected);
+    Ok(())
+}
+
+/// What looking at a run in so many pages comes to, for windows of 1,000 units.
+fn outcome_in(alloc: Global, script: &Script, pages: u32) -> Result<Outcome, Fail>
+    requires { (1 ≤ pages) × (pages ≤ 4096) }
+{
+    let events = few_events(script)?;
+    let mut scanner = OneScan::new(alloc);
+    let config = script.config();
+    Ok(outcome_of(alloc, &config, events, pages, 1000, &mut scanner)?)
+}
+
+/// What a run of sixty of the seven objects tells in seven pages, with a trigger of 3.
+const IN_SEVEN: Seen = Seen {
+    cycles: 4,
+    quanta: 4,
+    opens: 4,
+    left: Some(3),
+    room: HasRoom::No,
+    report: Report {
+        mutator: 60,
+        collector: 2997,
+        quanta: 20,
+        greatest: 208,
+        window: 1000,
+        least: Some(15),
+        floor: Some(12),
+    },
+};
+
+/// What it tells in eight pages, with a trigger of 4.
+const IN_EIGHT: Seen = Seen {
+    cycles: 4,
+    quanta: 4,
+    opens: 4,
+    left: Some(4),
+    room: HasRoom::Yes,
+    report: Report {
+        mutator: 60,
+        collector: 3005,
+        quanta: 20,
+        greatest: 208,
+        window: 1000,
+        least: Some(15),
+        floor: Some(12),
+    },
+};
+
+/// Cycles leave as many pages as four intervals open in eight pages, and not in seven.
+#[test]
+fn a_page_more_gives_room(rt: HostRuntime) -> Result<(), Fail> {
+    let alloc = rt.alloc();
+    let script = seven(alloc, 60)?;
+    let outcomes = [
+        outcome_in(alloc, &script, 6)?,
+        outcome_in(alloc, &script, 7)?,
+        outcome_in(alloc, &script, 8)?,
+    ];
+    let expected = [
+        Outcome::Full(29),
+        Outcome::Fits {
+            trigger: 3,
+            seen: IN_SEVEN,
+        },
+        Outcome::Fits {
+            trigger: 4,
+            seen: IN_EIGHT,
+        },
+    ];
+    assert_eq!(rt; outcomes, expected);
+    Ok(())
+}
+
+/// In three pages no cycle is wanted, so that there is no room to speak of.
+#[test]
+fn no_cycle_has_no_room(rt: HostRuntime) -> Result<(), Fail> {
+    let alloc = rt.alloc();
     let seen = Seen {
         cycles: 0,
-        quanta: 7,
-        free: 0,
-        in_use: 0,
-        refused: 0,
+        quanta: 0,
+        opens: 0,
+        left: None,
+        room: HasRoom::NoCycle,
+        report: Report {
+            mutator: 60,
+            collector: 0,
+            quanta: 1,
+            greatest: 0,
+            window: 1000,
+            least: None,
+            floor: Some(100),
+        },
     };
-    assert_eq!(rt;
-        facts_in(rt.alloc(), CLEARED, 6)?,
-        Some((seen, true, Some(6)))
-    );
+    let outcome = outcome_in(alloc, &sixteen(alloc, 60)?, 3)?;
+    assert_eq!(rt; outcome, Outcome::Fits { trigger: 0, seen });
     Ok(())
 }
 
-/// The pages at which a search ends that begins at so many.
-fn fewest_from(alloc: Global, pages: u32) -> Result<Option<u32>, Fail> {
-    let Some((_, _, fewest)) = facts_in(alloc, UNEVEN, pages)? else {
-        return Ok(None);
-    };
-    Ok(fewest)
+/// What is seen of a run of so many of the seven objects in eight pages with a trigger of 4, for windows of 300 units.
+fn seen_in_eight(alloc: Global, count: u32) -> Result<Seen, Fail> {
+    let script = seven(alloc, count)?;
+    let events = few_events(&script)?;
+    let heap = Config::new(8, 209, 4, 3).ok_or("a configuration")?;
+    let mut scanner = OneScan::new(alloc);
+    Ok(seen_of(alloc, heap, events, 300, &mut scanner)?)
 }
 
-/// From 9 pages on a search tries 4, which are too few, and ends at 5. From 6 pages on it tries 3 in place of 4.
+/// A cycle runs at the end that has had two quanta, so that it takes three at least.
 #[test]
-fn a_search_ends_at_an_edge(rt: HostRuntime) -> Result<(), Fail> {
-    let alloc = rt.alloc();
-    let found = [fewest_from(alloc, 9)?, fewest_from(alloc, 6)?];
-    assert_eq!(rt; found, [Some(5), Some(3)]);
+fn a_running_cycle_counts_one_more(rt: HostRuntime) -> Result<(), Fail> {
+    let expected = Seen {
+        cycles: 0,
+        quanta: 3,
+        opens: 2,
+        left: None,
+        room: HasRoom::Yes,
+        report: Report {
+            mutator: 20,
+            collector: 410,
+            quanta: 6,
+            greatest: 208,
+            window: 300,
+            least: Some(3),
+            floor: Some(3),
+        },
+    };
+    assert_eq!(rt; seen_in_eight(rt.alloc(), 20)?, expected);
     Ok(())
 }

@@ -1,4 +1,3 @@
-pub mod BlockLemmas
 pub mod CommandLemmas
 pub mod FaultLemmas
 pub mod NumberLemmas

@@ -1,5 +1,5 @@
 -- What the options of the matches are read as.
-use Rattle.std.proofs.Common.{◌≡◌, ◌∙◌, ◌⊎◌, ◌<◌, ◌≤◌, ◌^◌, ◌&&◌, ◌||◌, not, ℕ, Bool, true, false, Option, Some, None, option_map, refl, sym, ap, inl, inr, arith, codes}
+use Rattle.std.proofs.Common.{◌≡◌, ◌∙◌, ◌⊎◌, ◌<◌, ◌≤◌, ◌^◌, ℕ, Bool, true, false, Option, Some, None, option_map, refl, sym, ap, inl, inr, arith, codes}
 use Rattle.std.specs.Prelude.{◌≢◌, IfSome, is_some, IsSome, IsSomeAnd, MatchOption, Result, Ok, Err, find, option_and_then, slice_get, unwrap_or}
 use Rattle.std.specs.Str.{bytes_eq}
 use Rattle.clap.proofs.WalkLemmas.{first_value-rows}
@@ -14,9 +14,6 @@ use Rattle.mh_orders.specs.declared.profile.Profile.{Profile}
 use Rattle.mh_orders.specs.declared.profile.Profile.TheVariants.{Mixed}
 use Rattle.mh_command_line.specs.Line.{IsNumber, number_in_digits, rules_numbered}
 use Rattle.std.specs.Option.{option_map_or}
-use Rattle.std.proofs.lemmas.Bool.{false≢true, true≢false}
-use Rattle.std.proofs.lemmas.Bool.Decides.{nat_tests}
-use Rattle.mh_orders.specs.Given.{is_between, may_be}
 
 -- a number that fits is read
 module _ {E : Type 0} (k : ℕ) (gives : Text → Result ℕ E → Type 0) (parses : (text : Text) (r : Result ℕ E) → gives text r → ParsesUnsigned k 10 text r) where
@@ -90,11 +87,6 @@ is_some-given f name = go (first_value f name) refl where
   go None e = sym (ap is_some (not_given f name e))
   go (Some text) e = let given = is_given f name text e in sym (some_is (one_of name (rows_of f)) given.0 given.1)
 
--- a flag that is given has a text
-pub flagged-given : (found : Option Text) → option_map_or (λ text. bytes_eq text (codes "true")) found false ≡ true → IsSome found
-flagged-given None flagged = absurd (false≢true flagged)
-flagged-given (Some text) flagged = refl
-
 -- Options of `generate` ----------------------------------------------------------------------------
 
 pub if_given : (P : Text → Type 0) (found : Option Text) → IsSomeAnd found P → IfSome found P
@@ -123,39 +115,7 @@ pub profile-lacking : (found : Option Text) (text : Text) → found ≡ Some tex
 profile-lacking None text there reads = absurd (some-none (sym there))
 profile-lacking (Some other) text there reads = (reads other refl).1
 
--- Options of `size` --------------------------------------------------------------------------------
-
-pub given-number : (least most n : ℕ) (found : Option Text) → IfSome found (IsUnsignedIn least most) → Some n ≡ option_map number_in_digits found → IsSomeAnd found (λ text. IsNumber text × (number_in_digits text ≡ n))
-given-number least most n None given is = absurd (some-none is)
-given-number least most n (Some text) given is = (given.0, sym (same_some is))
-  where
-    same_some : {x y : ℕ} → Some x ≡ Some y → x ≡ y
-    same_some e = cc
-
-pub no-number : (found : Option Text) → None ≡ option_map number_in_digits found → found ≡ None
-no-number None is = refl
-no-number (Some text) is = absurd (some-none (sym is))
-
-pub number-is_some : (n : ℕ) (found : Option Text) → Some n ≡ option_map number_in_digits found → IsSome found
-number-is_some n None is = absurd (some-none is)
-number-is_some n (Some text) is = refl
-
-pub has-is_some : (P : Text → Type 0) (found : Option Text) → IsSomeAnd found P → IsSome found
-has-is_some P None is = absurd is
-has-is_some P (Some text) is = refl
-
--- a number that is given is within its bounds
-pub has-between : (least most n : ℕ) (found : Option Text) → IfSome found (IsUnsignedIn least most) → IsSomeAnd found (λ text. IsNumber text × (number_in_digits text ≡ n)) → (least ≤ n) × (n ≤ most)
-has-between least most n None within has = absurd has
-has-between least most n (Some text) within has = (omega (arith, within.2, has.1), omega (arith, within.3, has.1))
-
-pub between : (least most n : ℕ) → least ≤ n → n ≤ most → is_between least most n ≡ true
-between least most n above below = grind (arith, nat_tests)
-
--- and so is one that may be given
-pub may-between : (least most : ℕ) (found : Option Text) (number : Option ℕ) → IfSome found (IsUnsignedIn least most) → number ≡ option_map number_in_digits found → may_be least most number ≡ true
-may-between least most None number within is = ap (may_be least most) is
-may-between least most (Some text) number within is = ap (may_be least most) is ∙ between least most (number_in_digits text) within.2 within.3
+-- Texts that the program reads -------------------------------------------------------------------
 
 -- what the text of an option is read as, and that it can't be read
 module _ {A E : Type 0} (reads : Text → Result A E → Type 0) where
@@ -166,24 +126,3 @@ module _ {A E : Type 0} (reads : Text → Result A E → Type 0) where
   pub text-lacking : (P : Text → Type 0) (found : Option Text) (text : Text) → ((t : Text) (e : E) → reads t (Err e) → P t) → found ≡ Some text → ((t : Text) → found ≡ Some t → ReadsOne reads t None) → IsSomeAnd found P
   text-lacking P None text is there read = absurd (some-none (sym there))
   text-lacking P (Some other) text is there read = let r = read other refl in is other r.0 r.1
-
--- an option that may be left out
-pub match-given : (N : Type 0) (P : Text → Type 0) (found : Option Text) → IsSomeAnd found P → MatchOption found N P
-match-given N P None is = absurd is
-match-given N P (Some text) is = is
-
-pub match-none : (N : Type 0) (P : Text → Type 0) (found : Option Text) → found ≡ None → N → MatchOption found N P
-match-none N P None none is = is
-match-none N P (Some text) none is = absurd (some-none none)
-
--- what is given is not left out
-pub given-there : (found : Option Text) → IsSome found → found ≡ None → ⊥
-given-there None is none = false≢true is
-given-there (Some text) is none = some-none none
-
--- what is of no heap describes no blocks
-pub no-blocks : (sized target blocks : Bool) → sized ≡ true → (sized && (not target || blocks)) ≡ false → blocks ≡ false
-no-blocks true target false sized none = refl
-no-blocks true true true sized none = absurd (true≢false none)
-no-blocks true false true sized none = absurd (true≢false none)
-no-blocks false target blocks sized none = absurd (false≢true sized)

@@ -27,10 +27,10 @@ use Rattle.mh_orders.specs.declared.order.Order.TheVariants.{Version}
 use Rattle.mh_orders.specs.declared.order.ConfigOption.{ConfigOption}
 use Rattle.mh_command_line.specs.declared.options.CurveFault.TheVariants.{NoShare, HalfARound, TwoKinds}
 use Rattle.mh_command_line.specs.declared.options.OptionFault.{OptionFault}
-use Rattle.mh_command_line.specs.declared.options.OptionFault.TheVariants.{NoNumber, NoProfile, NoBlocks, Missing, Lacking, Unwanted, OfLog, NoFullAlone, OfCurve, Beside, Outside}
+use Rattle.mh_command_line.specs.declared.options.OptionFault.TheVariants.{NoNumber, NoProfile, NoRates, Missing, Lacking, Unwanted, OfLog, NoFullAlone, OfCurve, Beside, Outside}
 use Rattle.clap.specs.declared.error.kind.ErrorKind.{ErrorKind}
-use Rattle.mh_command_line.specs.Orders.{AreAmiss, AreNoBlocks, AreOfCurve, AreOfLog, AskAmiss, AsksOutside, AsksVersion, GivesOrder, HasFewWorkers, HasFirstRules, HasOptionFault, IsBeside, IsFault, IsLacking, IsMissing, IsNoNumber, IsNoProfile, IsOrder, IsOutside, IsUnwanted, LackSessions, Named, NotMet, NotTaken, IsSaidOfRefusal, RefusesOptions, kind_of_fault}
-use Rattle.mh_command_line.specs.Line.{AsksForFew, AsksForRange, AsksForRules, Checks, Generates, HasFlag, IsSubcommand, Answers, Lists, NamesOne, Nothing, Races, Runs, Shows, Tells, any_text, check_app, controls_numbers, cycles_app, event_numbers, every_numbers, flag_rule, generate_app, live_app, metroheap, page_numbers, quantum_numbers, round_numbers, rules_numbers, run_app, seeds, session_numbers, show_app, steps_app, step_numbers, trigger_numbers, worker_numbers, workers_app, Curves, curve_app, Sizes, block_numbers, part_numbers, percents, scheduled_numbers, size_app, startup_numbers, window_numbers}
+use Rattle.mh_command_line.specs.Orders.{AreAmiss, AreNoRates, AreOfCurve, AreOfLog, AskAmiss, AsksOutside, AsksVersion, GivesOrder, HasFewWorkers, HasFirstRules, HasOptionFault, IsBeside, IsFault, IsLacking, IsMissing, IsNoNumber, IsNoProfile, IsOrder, IsOutside, IsUnwanted, LackSessions, Named, NotMet, NotTaken, IsSaidOfRefusal, RefusesOptions, kind_of_fault}
+use Rattle.mh_command_line.specs.Line.{AsksForFew, AsksForRange, AsksForRules, Checks, Generates, HasFlag, IsSubcommand, Answers, Lists, NamesOne, Nothing, Races, Runs, Shows, Tells, any_text, check_app, controls_numbers, cycles_app, event_numbers, every_numbers, flag_rule, generate_app, live_app, metroheap, page_numbers, quantum_numbers, round_numbers, rules_numbers, run_app, seeds, session_numbers, show_app, steps_app, step_numbers, trigger_numbers, worker_numbers, workers_app, Curves, curve_app, Sizes, part_numbers, percents, quanta_numbers, scheduled_numbers, size_app, used_numbers, window_numbers}
 use Rattle.mh_command_line.proofs.OptionLemmas.{AreRead, IsSafe, level-read, never, none-missing, none_first, none_next, safe-flag, safe-given, safe-help, safe-value, value-given, value-may, value_rule}
 
 -- Options ----------------------------------------------------------------------------------------
@@ -292,30 +292,27 @@ sound-generate words e =
 -- and that of each option of `size`
 abbrev size_parser : Text → ValueParser
 size_parser name =
-    if bytes_eq name (codes "pages") then page_numbers else (if bytes_eq name (codes "every") then scheduled_numbers else (if bytes_eq name (codes "quantum") then quantum_numbers
-    else (if bytes_eq name (codes "live") then block_numbers else (if bytes_eq name (codes "references") then block_numbers
-    else (if bytes_eq name (codes "target") then percents else (if bytes_eq name (codes "window") then window_numbers else (if bytes_eq name (codes "rules") then rules_numbers else (if bytes_eq name (codes "parts") then part_numbers
-    else (if bytes_eq name (codes "startup") then startup_numbers else (if bytes_eq name (codes "run") then vp.Bool else any_text))))))))))
+    if bytes_eq name (codes "rules") then rules_numbers else (if bytes_eq name (codes "window") then window_numbers else (if bytes_eq name (codes "used") then used_numbers
+    else (if bytes_eq name (codes "every") then scheduled_numbers else (if bytes_eq name (codes "parts") then part_numbers else (if bytes_eq name (codes "quanta") then quanta_numbers
+    else (if bytes_eq name (codes "quantum") then quantum_numbers else (if bytes_eq name (codes "target") then percents else any_text)))))))
 
 size_plain : (name : Text) → reading_of (size_parser name) ≡ AsWritten
 size_plain name =
-    go (bytes_eq name (codes "pages")) (bytes_eq name (codes "every")) (bytes_eq name (codes "quantum")) (bytes_eq name (codes "live")) (bytes_eq name (codes "references")) (bytes_eq name (codes "target")) (bytes_eq name (codes "window")) (bytes_eq name (codes "rules")) (bytes_eq name (codes "parts")) (bytes_eq name (codes "startup")) (bytes_eq name (codes "run"))
+    go (bytes_eq name (codes "rules")) (bytes_eq name (codes "window")) (bytes_eq name (codes "used")) (bytes_eq name (codes "every")) (bytes_eq name (codes "parts")) (bytes_eq name (codes "quanta")) (bytes_eq name (codes "quantum"))
+    (bytes_eq name (codes "target"))
   where
-    go : (a b c d e f g h i j k : Bool)
-        → reading_of (if a then page_numbers else (if b then scheduled_numbers else (if c then quantum_numbers else (if d then block_numbers else (if e then block_numbers else (if f then percents else (if g then window_numbers else (if h then rules_numbers else (if i then part_numbers
-        else (if j then startup_numbers else (if k then vp.Bool else any_text))))))))))) ≡ AsWritten
-    go true b c d e f g h i j k = refl
-    go false true c d e f g h i j k = refl
-    go false false true d e f g h i j k = refl
-    go false false false true e f g h i j k = refl
-    go false false false false true f g h i j k = refl
-    go false false false false false true g h i j k = refl
-    go false false false false false false true h i j k = refl
-    go false false false false false false false true i j k = refl
-    go false false false false false false false false true j k = refl
-    go false false false false false false false false false true k = refl
-    go false false false false false false false false false false true = refl
-    go false false false false false false false false false false false = refl
+    go : (a b c d e f g h : Bool)
+        → reading_of (if a then rules_numbers else (if b then window_numbers else (if c then used_numbers else (if d then scheduled_numbers else (if e then part_numbers else (if f then quanta_numbers
+        else (if g then quantum_numbers else (if h then percents else any_text)))))))) ≡ AsWritten
+    go true b c d e f g h = refl
+    go false true c d e f g h = refl
+    go false false true d e f g h = refl
+    go false false false true e f g h = refl
+    go false false false false true f g h = refl
+    go false false false false false true g h = refl
+    go false false false false false false true h = refl
+    go false false false false false false false true = refl
+    go false false false false false false false false = refl
 
 sound-size : IsSound (built_leaf size_app.top)
 sound-size words e =
@@ -323,38 +320,18 @@ sound-size words e =
     let rows : List Row = rows_after s.rules [] words in
     let value : (name : Text) → _ = λ name. safe-value size_parser size_plain name 1 in
     let all : AreRead size_parser size_plain rows =
-    level-read size_parser size_plain s words (
-      value (codes "pages"),
-      (
-        value (codes "every"),
-        (
-          value (codes "quantum"),
-          (
-            value (codes "allocates"),
-            (
-              value (codes "live"),
-              (
-                value (codes "references"),
-                (value (codes "rate"), (value (codes "classes"), (value (codes "parts"), (value (codes "target"), (value (codes "window"), (value (codes "rules"), (value (codes "startup"), (safe-flag size_parser size_plain (codes "run") 1 refl, (safe-help size_parser size_plain 1, tt))))))))),
-              ),
-            ),
-          ),
-        ),
-      ),
-    ) e in
+    level-read size_parser size_plain s words
+    (value (codes "rules"), (value (codes "window"), (value (codes "used"), (value (codes "every"), (value (codes "rate"), (value (codes "parts"), (value (codes "quanta"), (value (codes "quantum"), (value (codes "target"), (safe-help size_parser size_plain 1, tt)))))))))) e in
     let may : (name : Text) → IfSome (one_of name rows) (Accepts false (size_parser name)) = λ name. value-may size_parser size_plain name rows all in
     Sizes refl (record {
-      pages = may (codes "pages");
-      every = may (codes "every");
-      quantum = may (codes "quantum");
-      live = may (codes "live");
-      references = may (codes "references");
-      parts = may (codes "parts");
-      target = may (codes "target");
-      window = may (codes "window");
       rules = may (codes "rules");
-      startup = may (codes "startup");
-      run = flag-may (one_of (codes "run") rows) (may (codes "run"));
+      window = may (codes "window");
+      used = may (codes "used");
+      every = may (codes "every");
+      parts = may (codes "parts");
+      quanta = may (codes "quanta");
+      quantum = may (codes "quantum");
+      target = may (codes "target");
     })
 
 AreSound-find : (test : Shape → Bool) (shapes : List Shape) → AreSound shapes → IfSome (find test shapes) IsSound
@@ -441,7 +418,7 @@ none_some e = cc
 not_version : (fault : OptionFault) (k : ErrorKind) → kind_of_fault fault ≡ Some k → is_version k ≡ false
 not_version (NoNumber name text) k kinds = sym (ap is_version (same_some kinds))
 not_version (NoProfile text) k kinds = sym (ap is_version (same_some kinds))
-not_version (NoBlocks option text) k kinds = sym (ap is_version (same_some kinds))
+not_version (NoRates text) k kinds = sym (ap is_version (same_some kinds))
 not_version (Lacking name) k kinds = sym (ap is_version (same_some kinds))
 not_version (Beside name other) k kinds = sym (ap is_version (same_some kinds))
 not_version (Missing name) k kinds = sym (ap is_version (same_some kinds))
@@ -482,7 +459,7 @@ module _ (a : App) (words : List Text) (m : ArgMatches) (is : a ≡ metroheap) (
   amiss_by : (name : Text) (rows : List Row) (fault : OptionFault) (k : ErrorKind) → HasOptionFault name rows fault → kind_of_fault fault ≡ Some k → AreAmiss name rows k
   amiss_by name rows (NoNumber option text) k is kinds = subst (AreAmiss name rows) (same_some kinds) (IsNoNumber is.0 option.now is.1.0 is.1.1)
   amiss_by name rows (NoProfile text) k is kinds = subst (AreAmiss name rows) (same_some kinds) (IsNoProfile is.0 is.1)
-  amiss_by name rows (NoBlocks option text) k is kinds = subst (AreAmiss name rows) (same_some kinds) (AreNoBlocks is.0 option.now is.1)
+  amiss_by name rows (NoRates text) k is kinds = subst (AreAmiss name rows) (same_some kinds) (AreNoRates is.0 is.1)
   amiss_by name rows (Lacking option) k is kinds = subst (AreAmiss name rows) (same_some kinds) (IsLacking is.0 option.now is.1 is.2)
   amiss_by name rows (Beside option other) k is kinds = subst (AreAmiss name rows) (same_some kinds) (IsBeside is.0 option.now other.now is.1 is.2 is.3)
   amiss_by name rows (Missing option) k is kinds = subst (AreAmiss name rows) (same_some kinds) (IsMissing is.0 option.now is.1.0 is.1.1)
@@ -504,7 +481,7 @@ module _ (a : App) (words : List Text) (m : ArgMatches) (is : a ≡ metroheap) (
   options_refused fault NoMemory has told = tt
   options_refused (NoNumber name text) NotText has told = absurd told
   options_refused (NoProfile text) NotText has told = absurd told
-  options_refused (NoBlocks which text) NotText has told = absurd told
+  options_refused (NoRates text) NotText has told = absurd told
   options_refused (Missing name) NotText has told = absurd told
   options_refused (Lacking name) NotText has told = absurd told
   options_refused (Beside name other) NotText has told = absurd told
@@ -515,7 +492,7 @@ module _ (a : App) (words : List Text) (m : ArgMatches) (is : a ≡ metroheap) (
   options_refused (Outside option) NotText has told = absurd told
   options_refused (NoNumber name text) (Configuration option) has told = absurd told
   options_refused (NoProfile text) (Configuration option) has told = absurd told
-  options_refused (NoBlocks which text) (Configuration option) has told = absurd told
+  options_refused (NoRates text) (Configuration option) has told = absurd told
   options_refused (Missing name) (Configuration option) has told = absurd told
   options_refused (Lacking name) (Configuration option) has told = absurd told
   options_refused (Beside name other) (Configuration option) has told = absurd told

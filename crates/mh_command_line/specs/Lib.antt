@@ -1,6 +1,6 @@
-pub mod Blocks
+pub mod Curves
 pub mod Line
 pub mod Orders
 pub mod Printable
+pub mod Rates
 pub mod Sizes
-pub mod Curves

@@ -53,12 +53,15 @@ every_numbers = Unsigned 0 1000000
 abbrev pub controls_numbers : ValueParser
 controls_numbers = Unsigned 0 1000000
 
--- the numbers after which the scheduler runs a quantum, those of blocks, and those of a share and its windows
+-- the numbers after which the scheduler runs a quantum, of pages in use, of quanta of a cycle, and of a share and its windows
 abbrev pub scheduled_numbers : ValueParser
 scheduled_numbers = Unsigned 1 1000000
 
-abbrev pub block_numbers : ValueParser
-block_numbers = Unsigned 0 1048576
+abbrev pub used_numbers : ValueParser
+used_numbers = Unsigned 0 4096
+
+abbrev pub quanta_numbers : ValueParser
+quanta_numbers = Unsigned 1 1000000
 
 abbrev pub percents : ValueParser
 percents = Unsigned 1 100
@@ -69,10 +72,6 @@ window_numbers = Unsigned 1 18446744073709551615
 -- the numbers of a round that is promised: twice the most is below 2 ^ 62
 abbrev pub round_numbers : ValueParser
 round_numbers = Unsigned 1 2305843009213693951
-
--- the numbers of events of a startup
-abbrev pub startup_numbers : ValueParser
-startup_numbers = Unsigned 0 1000000
 
 -- the numbers of parts of an object
 abbrev pub part_numbers : ValueParser
@@ -176,21 +175,16 @@ abbrev pub curve_app : App
 curve_app =
     with_rule (with_rule (with_rule (with_rule drawn_app (parsed_rule (codes "every") round_numbers)) (parsed_rule (codes "quantum") round_numbers)) (parsed_rule (codes "longest") seeds)) (parsed_rule (codes "keeps") any_text)
 
--- `size`, with the numbers of a configuration, with how mutators make objects, and with a share of the mutator. A script has rules, may have a startup, and may be run too
-abbrev pub sized_app : App
-sized_app = with_rule (with_rule (with_rule (new_app (codes "size")) (parsed_rule (codes "pages") page_numbers)) (parsed_rule (codes "every") scheduled_numbers)) (parsed_rule (codes "quantum") quantum_numbers)
+-- `size`, with rules and with windows; with what is counted of programs; with how long cycles take, and with a share of the mutator
+abbrev pub scripted_app : App
+scripted_app = with_rule (with_rule (new_app (codes "size")) rules_rule) (parsed_rule (codes "window") window_numbers)
 
-abbrev pub blocks_app : App
-blocks_app = with_rule (with_rule (with_rule sized_app (parsed_rule (codes "allocates") any_text)) (parsed_rule (codes "live") block_numbers)) (parsed_rule (codes "references") block_numbers)
-
-abbrev pub rates_app : App
-rates_app = with_rule (with_rule (with_rule blocks_app (parsed_rule (codes "rate") any_text)) (parsed_rule (codes "classes") any_text)) (parsed_rule (codes "parts") part_numbers)
-
-abbrev pub share_app : App
-share_app = with_rule (with_rule rates_app (parsed_rule (codes "target") percents)) (parsed_rule (codes "window") window_numbers)
+abbrev pub counted_app : App
+counted_app =
+    with_rule (with_rule (with_rule (with_rule scripted_app (parsed_rule (codes "used") used_numbers)) (parsed_rule (codes "every") scheduled_numbers)) (parsed_rule (codes "rate") any_text)) (parsed_rule (codes "parts") part_numbers)
 
 abbrev pub size_app : App
-size_app = with_rule (with_rule (with_rule share_app rules_rule) (parsed_rule (codes "startup") startup_numbers)) (flag_rule (codes "run"))
+size_app = with_rule (with_rule (with_rule counted_app (parsed_rule (codes "quanta") quanta_numbers)) (parsed_rule (codes "quantum") quantum_numbers)) (parsed_rule (codes "target") percents)
 
 -- the twelve subcommands
 abbrev pub optional_app : App
@@ -345,17 +339,14 @@ pub record AsksToGenerate (rows : List Row) : Type 0 where
 
 -- and those of `size`
 pub record AsksToSize (rows : List Row) : Type 0 where
-  pub pages : IfSome (one_of (codes "pages") rows) (IsUnsignedIn 1 4096)
-  pub every : IfSome (one_of (codes "every") rows) (IsUnsignedIn 1 1000000)
-  pub quantum : IfSome (one_of (codes "quantum") rows) (IsUnsignedIn 209 1000000)
-  pub live : IfSome (one_of (codes "live") rows) (IsUnsignedIn 0 1048576)
-  pub references : IfSome (one_of (codes "references") rows) (IsUnsignedIn 0 1048576)
-  pub parts : IfSome (one_of (codes "parts") rows) (IsUnsignedIn 1 3661)
-  pub target : IfSome (one_of (codes "target") rows) (IsUnsignedIn 1 100)
-  pub window : IfSome (one_of (codes "window") rows) (IsUnsignedIn 1 18446744073709551615)
   pub rules : AsksForRules rows
-  pub startup : IfSome (one_of (codes "startup") rows) (IsUnsignedIn 0 1000000)
-  pub run : HasFlag (codes "run") rows
+  pub window : IfSome (one_of (codes "window") rows) (IsUnsignedIn 1 18446744073709551615)
+  pub used : IfSome (one_of (codes "used") rows) (IsUnsignedIn 0 4096)
+  pub every : IfSome (one_of (codes "every") rows) (IsUnsignedIn 1 1000000)
+  pub parts : IfSome (one_of (codes "parts") rows) (IsUnsignedIn 1 3661)
+  pub quanta : IfSome (one_of (codes "quanta") rows) (IsUnsignedIn 1 1000000)
+  pub quantum : IfSome (one_of (codes "quantum") rows) (IsUnsignedIn 209 1000000)
+  pub target : IfSome (one_of (codes "target") rows) (IsUnsignedIn 1 100)
 
 -- the subcommand wants a configuration: `migrate` does, and `check` without `--sessions` and `--log`
 abbrev pub WantsConfig : Text → List Row → Type 0

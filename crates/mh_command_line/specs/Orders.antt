@@ -18,7 +18,7 @@ use Rattle.mh_model.specs.Limits.{least_quantum}
 use Rattle.mh_command_line.specs.declared.fault.LineFault.{LineFault}
 use Rattle.mh_command_line.specs.declared.fault.LineFault.TheVariants.{Words, NotText, Configuration, NoMemory}
 use Rattle.mh_orders.specs.declared.order.Order.{Order}
-use Rattle.mh_orders.specs.declared.order.Order.TheVariants.{Run, Steps, Show, Live, Race, Check, CheckSessions, CheckLog, Audit, Migrate, Generate, Version, Chrome, Cycles, Curve, CurveHistory, CurvePauses, Size, SizeRate, SizeTarget, SizeScript}
+use Rattle.mh_orders.specs.declared.order.Order.TheVariants.{Run, Steps, Show, Live, Race, Check, CheckSessions, CheckLog, Audit, Migrate, Generate, Version, Chrome, Cycles, Curve, CurveHistory, CurvePauses, SizeScript, SizeRoom, SizeTarget}
 use Rattle.mh_orders.specs.declared.order.Form.{Form}
 use Rattle.mh_orders.specs.declared.order.Form.TheVariants.{Replies, History}
 use Rattle.mh_orders.specs.declared.order.LiveHeap.{LiveHeap}
@@ -33,9 +33,9 @@ use Rattle.mh_orders.specs.declared.order.ConfigOption.{ConfigOption}
 use Rattle.mh_orders.specs.declared.order.ConfigOption.TheVariants.{Pages, Quantum, Trigger, Every}
 use Rattle.mh_command_line.specs.declared.options.CurveFault.{CurveFault}
 use Rattle.mh_command_line.specs.declared.options.OptionFault.{OptionFault}
-use Rattle.mh_command_line.specs.declared.options.OptionFault.TheVariants.{NoNumber, NoProfile, NoBlocks, Missing, Lacking, Unwanted, OfLog, NoFullAlone, OfCurve, Beside, Outside}
+use Rattle.mh_command_line.specs.declared.options.OptionFault.TheVariants.{NoNumber, NoProfile, NoRates, Missing, Lacking, Unwanted, OfLog, NoFullAlone, OfCurve, Beside, Outside}
 use Rattle.mh_command_line.specs.Curves.{AreCurveOptions, HasCurveFault, kind_of_curve_fault}
-use Rattle.mh_command_line.specs.Sizes.{AreHeapOptions, AreRateOptions, AreScriptOptions, AreTargetOptions, HasNoScript, IsAlone, IsWanted, LacksBlocks, has_size}
+use Rattle.mh_command_line.specs.Sizes.{AreRoomOptions, AreScriptOptions, AreTargetOptions, IsAlone, IsWanted, LacksRates}
 use Rattle.mh_command_line.specs.Line.{HasNumber, IsConfigOption, LacksNumber, WantsConfig, is_flagged, metroheap, number_or, optional_number, rules_given, rules_chosen, workers_of}
 
 -- Orders -----------------------------------------------------------------------------------------
@@ -157,10 +157,9 @@ IsOrder name rows (Curve rules options) = (name ≡ codes "curve") × (is_flagge
 IsOrder name rows (CurveHistory options) = (name ≡ codes "curve") × (is_flagged (codes "history") rows ≡ true) × (is_flagged (codes "pauses") rows ≡ false) × AreCurveOptions rows options
 IsOrder name rows (CurvePauses options) = (name ≡ codes "curve") × (is_flagged (codes "history") rows ≡ false) × (is_flagged (codes "pauses") rows ≡ true) × AreCurveOptions rows options
 IsOrder name rows (Generate options) = (name ≡ codes "generate") × AreGenerateOptions rows options
-IsOrder name rows (Size options) = (name ≡ codes "size") × HasNoScript rows × AreHeapOptions rows options
-IsOrder name rows (SizeRate options) = (name ≡ codes "size") × HasNoScript rows × AreRateOptions rows options
-IsOrder name rows (SizeTarget options) = (name ≡ codes "size") × HasNoScript rows × AreTargetOptions rows options
-IsOrder name rows (SizeScript options) = (name ≡ codes "size") × (has_size rows ≡ false) × AreScriptOptions rows options
+IsOrder name rows (SizeScript options) = (name ≡ codes "size") × AreScriptOptions rows options
+IsOrder name rows (SizeRoom options) = (name ≡ codes "size") × AreRoomOptions rows options
+IsOrder name rows (SizeTarget options) = (name ≡ codes "size") × AreTargetOptions rows options
 IsOrder name rows Version = ⊥
 
 -- an option of a configuration is outside its limits: that of the trigger if it is above that of the pages
@@ -235,7 +234,7 @@ HasOptionFault subcommand rows NoFullAlone = (subcommand ≡ codes "check") × I
 HasOptionFault subcommand rows (OfCurve fault) = (subcommand ≡ codes "curve") × HasCurveFault rows fault
 HasOptionFault subcommand rows (Outside option) = IsOutside subcommand rows option
 HasOptionFault subcommand rows (NoProfile text) = (subcommand ≡ codes "generate") × LacksProfile rows
-HasOptionFault subcommand rows (NoBlocks name text) = (subcommand ≡ codes "size") × LacksBlocks rows name.now
+HasOptionFault subcommand rows (NoRates text) = (subcommand ≡ codes "size") × LacksRates rows
 HasOptionFault subcommand rows (Lacking name) = (subcommand ≡ codes "size") × IsWanted rows name.now × (one_of name.now rows ≡ None)
 HasOptionFault subcommand rows (Beside name other) = (subcommand ≡ codes "size") × IsAlone rows name.now other.now × IsSome (one_of name.now rows) × IsSome (one_of other.now rows)
 HasOptionFault subcommand rows fault = WantsConfig subcommand rows × IsNumberFault rows fault
@@ -245,7 +244,7 @@ pub data AreAmiss (name : Text) (rows : List Row) : ErrorKind → Type 0 where
   IsNoNumber : WantsConfig name rows → (option : Text) → IsConfigOption option → LacksNumber rows option → AreAmiss name rows ValueValidation
   IsMissing : WantsConfig name rows → (option : Text) → IsConfigOption option → one_of option rows ≡ None → AreAmiss name rows MissingRequiredArgument
   IsNoProfile : name ≡ codes "generate" → LacksProfile rows → AreAmiss name rows ValueValidation
-  AreNoBlocks : name ≡ codes "size" → (option : Text) → LacksBlocks rows option → AreAmiss name rows ValueValidation
+  AreNoRates : name ≡ codes "size" → LacksRates rows → AreAmiss name rows ValueValidation
   IsLacking : name ≡ codes "size" → (option : Text) → IsWanted rows option → one_of option rows ≡ None → AreAmiss name rows MissingRequiredArgument
   IsBeside : name ≡ codes "size" → (option other : Text) → IsAlone rows option other → IsSome (one_of option rows) → IsSome (one_of other rows) → AreAmiss name rows ArgumentConflict
   IsUnwanted : name ≡ codes "check" → (option flag : Text) → IsConfigOption option → IsJudgingFlag rows flag → IsSome (one_of option rows) → AreAmiss name rows ArgumentConflict
@@ -307,7 +306,7 @@ OrdersBy words (Err fault) = IsFault words fault
 abbrev pub kind_of_fault : OptionFault → Option ErrorKind
 kind_of_fault (NoNumber name text) = Some ValueValidation
 kind_of_fault (NoProfile text) = Some ValueValidation
-kind_of_fault (NoBlocks name text) = Some ValueValidation
+kind_of_fault (NoRates text) = Some ValueValidation
 kind_of_fault (Missing name) = Some MissingRequiredArgument
 kind_of_fault (Lacking name) = Some MissingRequiredArgument
 kind_of_fault (Unwanted name flag) = Some ArgumentConflict

@@ -166,7 +166,7 @@ fn required<'a>(
 }
 
 /// The option `--pages` with a number within the limits of a configuration.
-pub(crate) fn pages<'a>(alloc: Global, help: &'a str) -> Arg<'a>
+fn pages<'a>(alloc: Global, help: &'a str) -> Arg<'a>
     ensures rule { rule_of result ≡ parsed_rule (codes "pages") page_numbers }
     ensures local { result.global ≡ false }
 {

@@ -9,7 +9,7 @@ ghost use Rattle.mh_command_line.specs.Curves.{AreCurveOptions, ArePromises, Ask
 ghost use Rattle.mh_command_line.specs.Line.{AsksToCurve, HasFlag, optional_number};
 ghost use Rattle.mh_command_line.specs.Orders.{HasFewWorkers, HasFirstRules, HasOptionFault, IsOrder};
 
-use crate::options::{CurveFault, OptionFault, is_flagged, rules_asked};
+use crate::options::{CurveFault, OptionFault, is_flagged, large_number, rules_asked};
 use clap::ArgMatches;
 use mh_model::config::Rules;
 use mh_orders::curve::{CurveForm, CurveOptions};
@@ -56,14 +56,6 @@ impl FromStr for AskedShare {
             None => Err(NotShare),
         }
     }
-}
-
-/// A number of 64 bits, if it is given.
-fn large_number(matches: &ArgMatches<'_>, name: &str) -> Option<u64>
-    requires { IfSome (one_of name.now (rows_of (found_of matches.now))) (IsUnsignedIn 0 18446744073709551615) }
-    ensures { result ≡ optional_number name.now (rows_of (found_of matches.now)) }
-{
-    matches.get_one::<u64>(name)
 }
 
 /// The rounds that are promised, if any are.

@@ -4,7 +4,6 @@
 //! crates of texts take their options without loading `clap`.
 #![tactic(auto)]
 
-mod blocks;
 mod check_options;
 mod command;
 mod curve;
@@ -14,6 +13,7 @@ mod generate_options;
 mod options;
 pub mod order;
 pub mod quoted;
+mod rates;
 mod size;
 mod size_options;
 pub mod version;

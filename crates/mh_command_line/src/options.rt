@@ -46,8 +46,8 @@ pub(crate) enum OptionFault<'a> {
     NoNumber(&'static str, &'a str),
     /// The profile that is asked for is none.
     NoProfile(&'a str),
-    /// The option with this name has a text without blocks.
-    NoBlocks(&'static str, &'a str),
+    /// The text of `--rate` has no rates.
+    NoRates(&'a str),
     /// The option with this name is not given.
     Missing(&'static str),
     /// The option of `size` with this name is not given, which the others want.
@@ -246,6 +246,14 @@ pub(crate) fn number(matches: &ArgMatches<'_>, name: &str) -> Option<u32>
     ensures { result ≡ optional_number name.now (rows_of (found_of matches.now)) }
 {
     matches.get_one::<u32>(name)
+}
+
+/// A number of 64 bits, if it is given.
+pub(crate) fn large_number(matches: &ArgMatches<'_>, name: &str) -> Option<u64>
+    requires { IfSome (one_of name.now (rows_of (found_of matches.now))) (IsUnsignedIn 0 18446744073709551615) }
+    ensures { result ≡ optional_number name.now (rows_of (found_of matches.now)) }
+{
+    matches.get_one::<u64>(name)
 }
 
 /// The number of an option that may be left out, of 32 bits at most.

@@ -7,7 +7,7 @@
 //! refused because they ask for the version.
 //!
 //! All other words are refused with one of the faults that `clap` finds first, or for their options. Then a number, a
-//! profile or blocks can't be read, an option is missing, or one may not stand beside another. Or the configuration
+//! profile or rates can't be read, an option is missing, or one may not stand beside another. Or the configuration
 //! is bad, with an option that is outside its limits. Numbers of a configuration may have any length. With
 //! `--sessions` and `--log` none of them is missing.
 //!
@@ -129,29 +129,24 @@ fn no_profile(
     )
 }
 
-/// The form of the blocks or of the share of an option.
-fn form_of(name: &str) -> &'static str {
-    match name {
-        "rate" => {
-            "WORDS:PARTS/UNITS with 4 to 64 words, 1 to 1000000 parts and units, and each class once"
-        }
-        "classes" => "WORDS from 4 to 64",
-        "keeps" => "U:W with 0 to 100 per cent and a number of units",
-        _ => "WORDS:COUNT with 4 to 64 words and 1 to 1048576 blocks of a class",
-    }
-}
+/// What the text of `--rate` is to be.
+const RATES: &str =
+    "WORDS:PARTS/UNITS or WORDS:PARTS/UNITS+BURST with 4 to 64 words, each other number from 1 to 1000000, and each class once";
 
-/// `clap`'s refusal of blocks or of a share that are none.
+/// What the text of `--keeps` is to be.
+const SHARE: &str = "U:W with 0 to 100 per cent and a number of units";
+
+/// `clap`'s refusal of rates or of a share that are none.
 fn unread(
     alloc: Global,
     subcommand: Option<&str>,
     name: &str,
     text: &str,
+    form: &str,
 ) -> Result<clap::Error, AllocError>
     ensures { IfOk result (λ error. kind_of error ≡ ValueValidation) }
 {
     let text = quoted(alloc, text)?;
-    let form = form_of(name);
     let message = format!(in alloc; "invalid value '{text}' for '--{name}': not {form}")?;
     refused(
         alloc,
@@ -201,7 +196,7 @@ fn refused_curve(
     ensures { IfOk result (λ error. kind_of error ≡ kind_of_curve_fault fault.entry) }
 {
     match fault {
-        CurveFault::NoShare(text) => unread(alloc, subcommand, "keeps", text),
+        CurveFault::NoShare(text) => unread(alloc, subcommand, "keeps", text, SHARE),
         CurveFault::HalfARound(name) => missing(alloc, subcommand, name),
         CurveFault::TwoKinds => beside(alloc, subcommand, "pauses", "history"),
     }
@@ -214,7 +209,7 @@ fn refused_options(alloc: Global, subcommand: Option<&str>, fault: OptionFault<'
         OptionFault::Outside(option) => return LineFault::Configuration(option),
         OptionFault::NoNumber(name, text) => no_number(alloc, subcommand, name, text),
         OptionFault::NoProfile(text) => no_profile(alloc, subcommand, text),
-        OptionFault::NoBlocks(name, text) => unread(alloc, subcommand, name, text),
+        OptionFault::NoRates(text) => unread(alloc, subcommand, "rate", text, RATES),
         OptionFault::Missing(name) | OptionFault::Lacking(name) => missing(alloc, subcommand, name),
         OptionFault::OfCurve(fault) => refused_curve(alloc, subcommand, fault),
         OptionFault::NoFullAlone => missing(alloc, subcommand, "sessions"),

@@ -5,7 +5,7 @@ use Rattle.std.proofs.lemmas.Bool.Decides.{nat_tests}
 use Rattle.mh_model.specs.Bytes.{Text}
 use Rattle.mh_model.specs.Trace.{Letter, least_mutator}
 use Rattle.mh_orders.specs.declared.promises.Round.{Round}
-use Rattle.mh_report.specs.Windows.{next_window_rounded_down}
+use Rattle.mh_report.specs.Windows.{next_window}
 use Rattle.mh_windows.specs.Always.{GoToTheEnd, HasLeast}
 use Rattle.mh_windows.specs.Lowest.{IsLowest}
 use Rattle.mh_windows.specs.declared.always.Point.{Point}
@@ -40,17 +40,17 @@ module _ (letters : List Letter) where
   places_none window points places no_point no_place = rw (no_point, no_place) (record { most = length letters; enough = omega arith; whole = λ points' places' placed. placed })
 
   pub places_more : (window : ℕ) (points points' : List Point) (places places' all : List ℕ) → HasPlaces letters window points places all → window < length letters → AddsPlace letters window points points' places places'
-      → HasPlaces letters (next_window_rounded_down window) points' places' all
+      → HasPlaces letters (next_window window) points' places' all
   places_more window points points' places places' all has short adds = by has.most has.enough has.whole where
     by : (most : ℕ) → length letters ≤ window + most
         → ((later : List Point) (after : List ℕ) → ArePlaced letters (windows_from most window (length letters)) later after → ArePlaced letters all (points ++ later) (places ++ after))
-        → HasPlaces letters (next_window_rounded_down window) points' places' all
+        → HasPlaces letters (next_window window) points' places' all
     by zero enough whole = absurd (omega (arith, enough, short))
     by (suc most) enough whole = record {
       most = most;
       enough = omega (arith, enough);
       whole = λ later after placed.
-          let windows : List ℕ = windows_from most (next_window_rounded_down window) (length letters) in
+          let windows : List ℕ = windows_from most (next_window window) (length letters) in
           let here : ArePlaced letters (window ∷ windows) (adds.point ∷ later) (adds.place ∷ after) = (adds.window_is, adds.lowest, placed) in
           let all_placed = whole (adds.point ∷ later) (adds.place ∷ after) (subst (λ ws. ArePlaced letters ws (adds.point ∷ later) (adds.place ∷ after)) (sym (windows-more most window (length letters) short)) here) in
           let at_points : points' ++ later ≡ points ++ adds.point ∷ later = ap (λ (ps : List Point). ps ++ later) adds.added ∙ append_assoc points (adds.point ∷ []) later in
@@ -83,7 +83,7 @@ module _ (letters : List Letter) where
   some_placed : (most window : ℕ) (places : List ℕ) → ArePlaced letters (windows_from most window (length letters)) [] places → ⊥
   some_placed zero window places placed = placed
   some_placed (suc most) window places placed = by (nat_lt window (length letters)) placed where
-    by : (b : Bool) → ArePlaced letters (if b then window ∷ windows_from most (next_window_rounded_down window) (length letters) else length letters ∷ []) [] places → ⊥
+    by : (b : Bool) → ArePlaced letters (if b then window ∷ windows_from most (next_window window) (length letters) else length letters ∷ []) [] places → ⊥
     by true placed = placed
     by false placed = placed
 
@@ -91,11 +91,11 @@ module _ (letters : List Letter) where
   first_placed zero window point points [] placed = absurd placed
   first_placed zero window point points (place ∷ places) placed = omega (arith, placed.0)
   first_placed (suc most) window point points [] placed = by (nat_lt window (length letters)) placed where
-    by : (b : Bool) → ArePlaced letters (if b then window ∷ windows_from most (next_window_rounded_down window) (length letters) else length letters ∷ []) (point ∷ points) [] → min window (length letters) ≤ point.window
+    by : (b : Bool) → ArePlaced letters (if b then window ∷ windows_from most (next_window window) (length letters) else length letters ∷ []) (point ∷ points) [] → min window (length letters) ≤ point.window
     by true placed = absurd placed
     by false placed = absurd placed
   first_placed (suc most) window point points (place ∷ places) placed = by (nat_lt window (length letters)) placed where
-    by : (b : Bool) → ArePlaced letters (if b then window ∷ windows_from most (next_window_rounded_down window) (length letters) else length letters ∷ []) (point ∷ points) (place ∷ places) → min window (length letters) ≤ point.window
+    by : (b : Bool) → ArePlaced letters (if b then window ∷ windows_from most (next_window window) (length letters) else length letters ∷ []) (point ∷ points) (place ∷ places) → min window (length letters) ≤ point.window
     by true placed = omega (arith, placed.0)
     by false placed = omega (arith, placed.0)
 
@@ -108,15 +108,15 @@ module _ (letters : List Letter) where
   pub goes_on : (most window : ℕ) (points : List Point) (places : List ℕ) → ArePlaced letters (windows_from most window (length letters)) points places → GoOn letters points
   goes_on most window [] places placed = tt
   goes_on zero window (point ∷ points) places placed = last_goes point points places placed
-  goes_on (suc most) window (point ∷ points) places placed = by (goes_on most (next_window_rounded_down window)) (nat_lt window (length letters)) refl points places placed where
-    by : ((later : List Point) (after : List ℕ) → ArePlaced letters (windows_from most (next_window_rounded_down window) (length letters)) later after → GoOn letters later) → (b : Bool) → nat_lt window (length letters) ≡ b
-        → (points : List Point) (places : List ℕ) → ArePlaced letters (if b then window ∷ windows_from most (next_window_rounded_down window) (length letters) else length letters ∷ []) (point ∷ points) places
+  goes_on (suc most) window (point ∷ points) places placed = by (goes_on most (next_window window)) (nat_lt window (length letters)) refl points places placed where
+    by : ((later : List Point) (after : List ℕ) → ArePlaced letters (windows_from most (next_window window) (length letters)) later after → GoOn letters later) → (b : Bool) → nat_lt window (length letters) ≡ b
+        → (points : List Point) (places : List ℕ) → ArePlaced letters (if b then window ∷ windows_from most (next_window window) (length letters) else length letters ∷ []) (point ∷ points) places
         → GoToTheEnd letters (point ∷ points)
     by onward true is points [] placed = absurd placed
-    by onward true is [] (place ∷ places) placed = absurd (some_placed most (next_window_rounded_down window) places placed.2)
+    by onward true is [] (place ∷ places) placed = absurd (some_placed most (next_window window) places placed.2)
     by onward true is (next ∷ points) (place ∷ places) placed =
         let short : window < length letters = grind (arith, nat_tests) in
-        let after = first_placed most (next_window_rounded_down window) next points places placed.2 in
+        let after = first_placed most (next_window window) next points places placed.2 in
         (least_of window point place placed.0 placed.1, omega (arith, short, after, placed.0), onward (next ∷ points) places placed.2)
     by onward false is points places placed = last_goes point points places placed
 

@@ -17,7 +17,7 @@ use Rattle.std.specs.Prelude.{Option, Some, None, IfSome, Result, Err, IsErrOf}
 use Rattle.mh_script.specs.declared.fault.ScriptFault.{ScriptFault}
 use Rattle.mh_script.specs.declared.fault.ScriptFault.TheVariants.{NoMemory}
 use Rattle.mh_curve.specs.declared.end.CurveEnd.{CurveEnd}
-use Rattle.mh_curve.specs.declared.end.CurveEnd.TheVariants.{Drawn, ScriptRefused, HistoryRefused, HistoryTooLong, LogRefused}
+use Rattle.mh_curve.specs.declared.end.CurveEnd.TheVariants.{Drawn, ScriptRefused}
 use Rattle.mh_curve.specs.declared.promises.Broken.{Broken}
 use Rattle.mh_curve.specs.Runs.{BreaksSo, IsEndOf, IsFoundOfRun, IsJudgedRun}
 use Rattle.mh_model.specs.Machine.{Machine, event_step, first_machine, machine_after}

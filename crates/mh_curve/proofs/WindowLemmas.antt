@@ -5,7 +5,7 @@ use Rattle.std.specs.List.{All}
 use Rattle.std.proofs.lemmas.Bool.Decides.{nat_tests}
 use Rattle.mh_model.specs.declared.config.Config.{Config}
 use Rattle.mh_model.specs.Trace.{Letter, M, C, mutator_count, collector_count, least_mutator}
-use Rattle.mh_report.specs.Windows.{next_window_rounded_down}
+use Rattle.mh_report.specs.Windows.{next_window}
 use Rattle.mh_curve.specs.declared.point.Point.{Point}
 use Rattle.mh_curve.specs.Points.{HasLeast, point_at, points_of, windows, windows_from}
 
@@ -23,16 +23,16 @@ windows-some letters some =
     let is : (letters == 0) ≡ false = grind (arith, nat_tests) in
     ap (λ (b : Bool). if b then [] else windows_from letters 1 letters) is
 
-pub windows-more : (most window letters : ℕ) → window < letters → windows_from (suc most) window letters ≡ window ∷ windows_from most (next_window_rounded_down window) letters
+pub windows-more : (most window letters : ℕ) → window < letters → windows_from (suc most) window letters ≡ window ∷ windows_from most (next_window window) letters
 windows-more most window letters short =
     let is : nat_lt window letters ≡ true = grind (arith, nat_tests) in
-    ap (λ (b : Bool). if b then window ∷ windows_from most (next_window_rounded_down window) letters else letters ∷ []) is
+    ap (λ (b : Bool). if b then window ∷ windows_from most (next_window window) letters else letters ∷ []) is
 
 pub windows-last : (most window letters : ℕ) → letters ≤ window → windows_from most window letters ≡ letters ∷ []
 windows-last zero window letters long = refl
 windows-last (suc most) window letters long =
     let is : nat_lt window letters ≡ false = grind (arith, nat_tests) in
-    ap (λ (b : Bool). if b then window ∷ windows_from most (next_window_rounded_down window) letters else letters ∷ []) is
+    ap (λ (b : Bool). if b then window ∷ windows_from most (next_window window) letters else letters ∷ []) is
 
 -- these are the first points, and with those of the windows from one on they are all
 pub record HasPoints (point_of : ℕ → Point) (letters window : ℕ) (points all : List Point) : Type 0 where
@@ -44,15 +44,15 @@ module _ (point_of : ℕ → Point) (letters : ℕ) where
   pub points_none : HasPoints point_of letters 1 [] (map point_of (windows_from letters 1 letters))
   points_none = record { most = letters; enough = omega arith; whole = refl }
 
-  pub points_more : (window : ℕ) (points points' all : List Point) → HasPoints point_of letters window points all → window < letters → points' ≡ points ++ point_of window ∷ [] → HasPoints point_of letters (next_window_rounded_down window) points' all
+  pub points_more : (window : ℕ) (points points' all : List Point) → HasPoints point_of letters window points all → window < letters → points' ≡ points ++ point_of window ∷ [] → HasPoints point_of letters (next_window window) points' all
   points_more window points points' all has short pushed = by has.most has.enough has.whole where
-    by : (most : ℕ) → letters ≤ window + most → points ++ map point_of (windows_from most window letters) ≡ all → HasPoints point_of letters (next_window_rounded_down window) points' all
+    by : (most : ℕ) → letters ≤ window + most → points ++ map point_of (windows_from most window letters) ≡ all → HasPoints point_of letters (next_window window) points' all
     by zero enough whole = absurd (omega (arith, enough, short))
     by (suc most) enough whole = record {
       most = most;
       enough = omega (arith, enough);
-      whole = ap (λ (ps : List Point). ps ++ map point_of (windows_from most (next_window_rounded_down window) letters)) pushed
-          ∙ (append_assoc points (point_of window ∷ []) (map point_of (windows_from most (next_window_rounded_down window) letters))
+      whole = ap (λ (ps : List Point). ps ++ map point_of (windows_from most (next_window window) letters)) pushed
+          ∙ (append_assoc points (point_of window ∷ []) (map point_of (windows_from most (next_window window) letters))
           ∙ (ap (λ (ws : List ℕ). points ++ map point_of ws) (sym (windows-more most window letters short)) ∙ whole));
     }
 
@@ -85,12 +85,12 @@ module _ (config : Config) (letters : List Letter) where
 
   met_from : (most window : ℕ) → All (HasLeast letters) (map (point_at config letters) (windows_from most window (length letters)))
   met_from zero window = all_cons (HasLeast letters) (point_at config letters (length letters)) [] (met (length letters) (omega arith)) (all_none (HasLeast letters))
-  met_from (suc most) window = by (nat_lt window (length letters)) refl (met_from most (next_window_rounded_down window)) where
-    by : (b : Bool) → nat_lt window (length letters) ≡ b → All (HasLeast letters) (map (point_at config letters) (windows_from most (next_window_rounded_down window) (length letters)))
-        → All (HasLeast letters) (map (point_at config letters) (if b then window ∷ windows_from most (next_window_rounded_down window) (length letters) else length letters ∷ []))
+  met_from (suc most) window = by (nat_lt window (length letters)) refl (met_from most (next_window window)) where
+    by : (b : Bool) → nat_lt window (length letters) ≡ b → All (HasLeast letters) (map (point_at config letters) (windows_from most (next_window window) (length letters)))
+        → All (HasLeast letters) (map (point_at config letters) (if b then window ∷ windows_from most (next_window window) (length letters) else length letters ∷ []))
     by true is more =
         let short : window < length letters = grind (arith, nat_tests) in
-        all_cons (HasLeast letters) (point_at config letters window) (map (point_at config letters) (windows_from most (next_window_rounded_down window) (length letters))) (met window (omega (arith, short))) more
+        all_cons (HasLeast letters) (point_at config letters window) (map (point_at config letters) (windows_from most (next_window window) (length letters))) (met window (omega (arith, short))) more
     by false is more = all_cons (HasLeast letters) (point_at config letters (length letters)) [] (met (length letters) (omega arith)) (all_none (HasLeast letters))
 
   pub points_met : All (HasLeast letters) (points_of config letters)

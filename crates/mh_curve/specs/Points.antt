@@ -3,14 +3,14 @@ use Rattle.std.specs.Prelude.{◌≡◌, ℕ, zero, suc, ◌==◌, nat_lt, if◌
 use Rattle.mh_model.specs.declared.config.Config.{Config}
 use Rattle.mh_model.specs.Machine.{floor_of}
 use Rattle.mh_model.specs.Trace.{Letter, TraceState, mutator_count, collector_count, least_mutator}
-use Rattle.mh_report.specs.Windows.{next_window_rounded_down}
+use Rattle.mh_report.specs.Windows.{next_window}
 use Rattle.mh_curve.specs.declared.point.Counts.{Counts}
 use Rattle.mh_curve.specs.declared.point.Point.{Point}
 
 -- the windows from one on that are shorter than a trace, so many at most, and then the whole trace
 abbrev pub windows_from : ℕ → ℕ → ℕ → List ℕ
 windows_from zero window letters = letters ∷ []
-windows_from (suc most) window letters = if nat_lt window letters then window ∷ windows_from most (next_window_rounded_down window) letters else letters ∷ []
+windows_from (suc most) window letters = if nat_lt window letters then window ∷ windows_from most (next_window window) letters else letters ∷ []
 
 -- The windows of a trace of so many letters: from 1 on each an eighth longer, and the last is the whole trace. A trace of no letter has none
 abbrev pub windows : ℕ → List ℕ

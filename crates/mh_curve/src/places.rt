@@ -10,7 +10,7 @@ use crate::points::letter_count;
 use mh_model::memory::NoMemory;
 use mh_orders::promises::Round;
 use mh_report::trace::Trace;
-use mh_report::windows::next_window_rounded_down;
+use mh_report::windows::next_window;
 use mh_windows::always::Point;
 use mh_windows::lowest::lowest_of;
 use std::alloc::Global;
@@ -67,7 +67,7 @@ pub fn place_points(alloc: Global, trace: &Trace, longest: u64) -> Result<Placed
     let mut window = longest.max(1);
     while window < letters {
         placed.add(trace, window)?;
-        window = next_window_rounded_down(window);
+        window = next_window(window);
     }
     placed.add(trace, letters)?;
     Ok(placed)

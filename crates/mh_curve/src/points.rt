@@ -14,7 +14,7 @@ use mh_model::config::Config;
 use mh_model::memory::NoMemory;
 use mh_report::report::report;
 use mh_report::trace::Trace;
-use mh_report::windows::next_window_rounded_down;
+use mh_report::windows::next_window;
 use std::alloc::Global;
 
 /// How many units a trace has.
@@ -57,7 +57,7 @@ pub fn curve_points(
     let mut window = 1;
     while window < letters {
         points.push(point_at(config, trace, window))?;
-        window = next_window_rounded_down(window);
+        window = next_window(window);
     }
     points.push(point_at(config, trace, letters))?;
     Ok(points)

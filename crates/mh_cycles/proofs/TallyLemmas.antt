@@ -11,7 +11,7 @@ use Rattle.mh_model.specs.declared.deed.Edge.{Edge}
 use Rattle.mh_model.specs.declared.deed.Fate.{Fate}
 use Rattle.mh_model.specs.declared.deed.Fate.TheVariants as fate
 use Rattle.mh_model.specs.declared.deed.Tier.{Tier}
-use Rattle.mh_model.specs.declared.deed.Tier.TheVariants.{Dense, Fresh, Sparse}
+use Rattle.mh_model.specs.declared.deed.Tier.TheVariants.{Dense}
 use Rattle.mh_model.specs.Deeds.{deed_units, units_of}
 use Rattle.mh_model.specs.Pages.{slot_number}
 use Rattle.mh_cycle_laws.specs.Cycles.{marks, makes, opens, opens_by, shades, frees, frees_by, drops, drops_by, empties, comes_to_sparse, begins_page, moves, words_moved, is_phase, units_in, grey_after_deed, grey_after_edge, longest_grey}

@@ -1,6 +1,6 @@
 -- The intervals and the cycles of a run, and when it is never full.
 -- An *interval* is the events between two quanta, with the event that has the second one run.
-use Rattle.std.specs.Prelude.{◌≡◌, ℕ, ◌+◌, ◌*◌, ◌<◌, ◌≤◌, nat_lt, false, Bool, not, ◌&&◌, ◌||◌, if◌then◌else◌, List, [], ◌∷◌, ◌++◌}
+use Rattle.std.specs.Prelude.{◌≡◌, ℕ, ◌<◌, nat_lt, false, Bool, not, ◌&&◌, ◌||◌, if◌then◌else◌, List, [], ◌∷◌, ◌++◌}
 use Rattle.std.specs.List.{AllByRecursion}
 use Rattle.mh_model.specs.declared.command.Event.{Event}
 use Rattle.mh_model.specs.declared.command.Event.TheVariants as event
@@ -10,7 +10,7 @@ use Rattle.mh_model.specs.World.{World, world_step}
 use Rattle.mh_model.specs.Collector.{Collector, is_idle}
 use Rattle.mh_model.specs.Machine.{Machine, first_machine, half_step, event_step, machine_replies}
 use Rattle.mh_model.specs.Snapshot.{has_quantum, is_heap_full}
-use Rattle.mh_model.specs.Openings.{opens_at_most, free_of, LeavesFlagged}
+use Rattle.mh_model.specs.Openings.{LeavesFlagged}
 
 -- Runs -------------------------------------------------------------------------------------------
 
@@ -43,13 +43,6 @@ cycle_ends machine (event ∷ events) =
 -- no cycle takes more than so many quanta: one that runs has had fewer
 abbrev pub CyclesTakeAtMost : ℕ → Config → List Event → Type 0
 CyclesTakeAtMost quanta config events = AllByRecursion (λ machine. is_idle machine.heap.collector.phase ≡ false → machine.heap.collector.quanta < quanta) (moments (first_machine config) events)
-
--- a run has room for so many intervals that open so many pages each: in its pages, in its trigger and one more, and in the free pages that each cycle leaves
-pub record HasRoomFor (config : Config) (events : List Event) (quanta opened : ℕ) : Type 0 where
-  pub pages : quanta * opened ≤ config.pages
-  pub trigger : quanta * opened ≤ config.trigger + 1
-  pub intervals : AllByRecursion (λ interval. opens_at_most config interval ≤ opened) (intervals [] (first_machine config) events)
-  pub left : AllByRecursion (λ machine. quanta * opened ≤ free_of machine) (cycle_ends (first_machine config) events)
 
 -- Runs that are never full ------------------------------------------------------------------------
 

@@ -1,5 +1,5 @@
 -- How many pages new objects may open while no quantum is run.
-use Rattle.std.specs.Prelude.{◌≡◌, ℕ, ◌+◌, ◌==◌, nat_lt, Bool, true, false, if◌then◌else◌, None, option_map, unwrap_or, length, List, []}
+use Rattle.std.specs.Prelude.{◌≡◌, ℕ, ◌+◌, ◌==◌, nat_lt, Bool, true, false, if◌then◌else◌, None, option_map, unwrap_or, List, []}
 use Rattle.std.specs.Int.{div_ceil}
 use Rattle.std.specs.List.{sum_by, count_by, flat_map}
 use Rattle.mh_model.specs.declared.command.Command.TheVariants as command
@@ -31,10 +31,6 @@ pages_of_parts list = sum_by (λ size. pages_for size (class_parts size list)) c
 abbrev pub asked_parts : Config → Event → List Part
 asked_parts config (event.Session who (command.New slot references numbers)) = if nat_lt (most_fields config) (references + numbers) then [] else parts references numbers
 asked_parts config _ = []
-
--- how many parts the objects have that these events ask for
-abbrev pub asked_count : Config → List Event → ℕ
-asked_count config events = length (flat_map (asked_parts config) events)
 
 -- the most pages that a list of events opens if it runs no quantum
 abbrev pub opens_at_most : Config → List Event → ℕ

@@ -36,7 +36,6 @@ pub mod dump;
 pub mod history;
 pub mod limits;
 pub mod memory;
-pub mod needs;
 pub mod place;
 pub mod reply;
 pub mod report;

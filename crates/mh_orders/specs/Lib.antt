@@ -1,4 +1,3 @@
-pub mod Allocation
 pub mod Given
 pub mod Profiles
 pub mod Steps

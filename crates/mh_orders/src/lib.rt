@@ -4,17 +4,13 @@
 //! `mh_command_line`, which reads words, loads no heap.
 #![tactic(auto)]
 
-pub mod allocation;
-pub mod allocations;
-pub mod classes;
 pub mod curve;
 pub mod generate_options;
-pub mod heap_options;
 pub mod order;
 pub mod profile;
 pub mod promises;
 pub mod range;
-pub mod rate_options;
 pub mod rates;
+pub mod room_options;
 pub mod steps;
 pub mod target_options;

@@ -3,9 +3,8 @@
 //! `line_order`.
 use crate::curve::CurveOptions;
 use crate::generate_options::Options;
-use crate::heap_options::HeapOptions;
 use crate::range::RangeOptions;
-use crate::rate_options::RateOptions;
+use crate::room_options::RoomOptions;
 use crate::steps::Steps;
 use crate::target_options::TargetOptions;
 use mh_model::config::{Config, Rules};
@@ -66,10 +65,8 @@ pub struct LiveOptions {
 #[derive(Clone, Copy, Debug, PartialEq, Eq)]
 pub struct SizeOptions {
     pub rules: Rules,
-    /// How many of its first events make what stays, if some do.
-    pub startup: Option<u32>,
-    /// Whether it is run too, in heaps of the sizes that were found.
-    pub is_run: bool,
+    /// How long the windows are of which the mutator's share is written, and ten rounds if it is not given.
+    pub window: Option<u64>,
 }
 
 /// What the program is to do.
@@ -107,14 +104,12 @@ pub enum Order {
     CurvePauses(CurveOptions),
     /// Write the random script that is asked for.
     Generate(Options),
-    /// Write how large a heap has to be for how mutators make objects.
-    Size(HeapOptions),
-    /// Write the heap with the fewest pages that keeps a share of the mutator at rates.
-    SizeRate(RateOptions),
+    /// Run the script on standard input in heaps of other sizes, and write what was seen.
+    SizeScript(SizeOptions),
+    /// Write the heap that has room for all programs of which this is so.
+    SizeRoom(RoomOptions),
     /// Write which quantum keeps a share of the mutator.
     SizeTarget(TargetOptions),
-    /// Write what the sessions of the script on standard input need.
-    SizeScript(SizeOptions),
     /// Write the version of the program.
     Version,
 }

@@ -1,7 +1,7 @@
 //! Which share of the mutator is to be kept, and what is given of the configuration that keeps it. The limits of what
 //! is given are part of the type.
 ghost use Rattle.std.specs.Prelude.{IsTrue};
-ghost use Rattle.mh_orders.specs.Given.{is_given_within, may_be};
+ghost use Rattle.mh_orders.specs.Given.{is_given_within};
 
 /// What is given of a configuration that is to keep a share.
 #[derive(Clone, Copy, Debug, PartialEq, Eq)]
@@ -13,12 +13,12 @@ pub enum Given {
     Quantum(u32),
 }
 
-/// A share of the mutator in each stretch of a length.
+/// A share of the mutator in each stretch of a length or longer.
 #[derive(Clone, Copy, Debug, PartialEq, Eq)]
 pub struct Target {
     /// The share in parts of a hundred.
     pub percent: u32,
-    /// The length, in units of the mutator and the collector together.
+    /// The least length, in units of the mutator and the collector together.
     pub window: u64,
 }
 
@@ -27,8 +27,5 @@ pub struct Target {
 pub struct TargetOptions {
     pub target: Target,
     pub given: Given,
-    /// The pages of the heap, if the bound of a cycle is asked for.
-    pub pages: Option<u32>,
     pub ghost within: { IsTrue (is_given_within given) },
-    pub ghost few_pages: { IsTrue (may_be 1 4096 pages) },
 }

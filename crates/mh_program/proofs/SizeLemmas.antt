@@ -1,24 +1,29 @@
 -- What is written of a size is a text of its kind.
-use Rattle.std.proofs.Common.{◌≡◌, sym, subst}
+use Rattle.std.proofs.Common.{◌≡◌, Bool, true, false, sym, subst}
 use Rattle.std.specs.Prelude.{IfOk, OnErr, Result, Ok, Err}
-use Rattle.mh_live.specs.OfScript.End.{End}
-use Rattle.mh_live.specs.OfScript.End.TheVariants.{Done, Refused}
+use Rattle.std.specs.String.{string_bytes}
 use Rattle.mh_live.specs.OfScript.Run.{Device}
 use Rattle.mh_live.specs.OfScript.ScriptFault.{ScriptFault}
-use Rattle.mh_live.specs.OfScript.ScriptFault.TheVariants.{Read, Write, NoMemory, HistoryFull}
+use Rattle.mh_live.specs.OfScript.ScriptFault.TheVariants.{Write, NoMemory}
 use Rattle.mh_model.specs.Bytes.{Text}
-use Rattle.mh_program.specs.Program.{WritesSize}
+use Rattle.mh_size_text.specs.declared.end.SizeEnd.{SizeEnd}
+use Rattle.mh_size_text.specs.declared.end.SizeEnd.TheVariants.{Sized, NoSize, Refused}
+use Rattle.mh_sizing.specs.declared.text.SizeText.{SizeText}
+use Rattle.mh_program.specs.Program.{IsMadeText, WritesSize}
 
--- what holds of a text holds of what is written of it
-of-text : (Is : Text → Type 0) (text : Text) (old new : Device) (ended : Result End ScriptFault) → Is text → WritesSize (λ body. body ≡ text) old new ended → WritesSize Is old new ended
-of-text Is text old new (Ok Done) is ((body, same, appends), failures) = ((body, subst Is (sym same) is, appends), failures)
-of-text Is text old new (Ok (Refused refusal)) is none = none
-of-text Is text old new (Err Write) is ((body, same, begins), failures) = ((body, subst Is (sym same) is, begins), failures)
-of-text Is text old new (Err NoMemory) is same = same
-of-text Is text old new (Err other) is none = none
+-- what holds of the text that was made holds of one that is it
+same-text : (Is : Text → Bool → Type 0) (made : SizeText) (text : Text) (found : Bool) → Is (string_bytes made.text) made.is_found → IsMadeText made text found → Is text found
+same-text Is made text found is (same, whether) = subst (λ (b : Bool). Is text b) (sym whether) (subst (λ (t : Text). Is t made.is_found) (sym same) is)
 
-module _ {T E : Type 0} (bytes : T → Text) where
-  pub written-is : (Is : Text → Type 0) (text : Result T E) (old new : Device) (ended : Result End ScriptFault) → IfOk text (λ made. Is (bytes made)) → IfOk text (λ made. WritesSize (λ body. body ≡ bytes made) old new ended) → OnErr text ((ended ≡ Err NoMemory) × (new ≡ old))
-      → WritesSize Is old new ended
-  written-is Is (Ok made) old new ended is wrote none = of-text Is (bytes made) old new ended is wrote
-  written-is Is (Err error) old new ended is wrote (none, same) = subst (WritesSize Is old new) (sym none) same
+of-text : (Is : Text → Bool → Type 0) (made : SizeText) (old new : Device) (ended : Result SizeEnd ScriptFault) → Is (string_bytes made.text) made.is_found → WritesSize (IsMadeText made) old new ended → WritesSize Is old new ended
+of-text Is made old new (Ok Sized) is ((text, of, appends), failures) = ((text, same-text Is made text true is of, appends), failures)
+of-text Is made old new (Ok NoSize) is ((text, of, appends), failures) = ((text, same-text Is made text false is of, appends), failures)
+of-text Is made old new (Ok (Refused refusal)) is none = none
+of-text Is made old new (Err Write) is ((text, found, of, begins), failures) = ((text, found, same-text Is made text found is of, begins), failures)
+of-text Is made old new (Err NoMemory) is same = same
+of-text Is made old new (Err other) is none = none
+
+pub written-is : {E : Type 0} (Is : Text → Bool → Type 0) (made : Result SizeText E) (old new : Device) (ended : Result SizeEnd ScriptFault) → IfOk made (λ m. Is (string_bytes m.text) m.is_found) → IfOk made (λ m. WritesSize (IsMadeText m) old new ended)
+    → OnErr made ((ended ≡ Err NoMemory) × (new ≡ old)) → WritesSize Is old new ended
+written-is Is (Ok made) old new ended is wrote none = of-text Is made old new ended is wrote
+written-is Is (Err error) old new ended is wrote (none, same) = subst (WritesSize Is old new) (sym none) same

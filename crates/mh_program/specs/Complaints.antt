@@ -26,6 +26,8 @@ use Rattle.mh_live.specs.OfScript.LineRefusal.{LineRefusal}
 use Rattle.mh_live.specs.OfScript.ScriptFault.{ScriptFault}
 use Rattle.mh_live.specs.OfScript.ScriptFault.TheVariants.{Read, Write, NoMemory, HistoryFull}
 use Rattle.mh_live.specs.OfScript.Run.{Device}
+use Rattle.mh_size_text.specs.declared.end.SizeEnd.{SizeEnd}
+use Rattle.mh_size_text.specs.declared.end.SizeEnd.TheVariants as size
 use Rattle.mh_text.specs.Stream.{AppendsBeginning}
 
 -- The stream -------------------------------------------------------------------------------------
@@ -105,6 +107,11 @@ pub data SaysRefusals : ErrorStream → List LineRefusal → ErrorStream → Typ
 abbrev pub SaysEnd : ErrorStream → ErrorStream → End → Type 0
 SaysEnd old new Done = SaysNothing old new
 SaysEnd old new (Refused refusal) = SaysRefusal old new refusal
+
+-- of a size: nothing if the script was done
+abbrev pub SaysSized : ErrorStream → ErrorStream → SizeEnd → Type 0
+SaysSized old new (size.Refused refusal) = SaysRefusal old new refusal
+SaysSized old new ended = SaysNothing old new
 
 -- of a history: nothing if it is legal, and else where and why it isn't
 abbrev pub SaysJudgement : ErrorStream → ErrorStream → Judgement → Type 0

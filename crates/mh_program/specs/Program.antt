@@ -1,11 +1,11 @@
 -- What the program does with the words of its command line, and what it writes to standard error.
-use Rattle.std.specs.Prelude.{◌≡◌, ℕ, ◌<◌, Result, Ok, Err, codes}
+use Rattle.std.specs.Prelude.{◌≡◌, ℕ, ◌<◌, Bool, true, false, Result, Ok, Err, codes}
 use Rattle.std.specs.Io.KnownBytes.{Appends}
 use Rattle.mh_model.specs.Bytes.{Text, line_text}
 use Rattle.mh_live.specs.OfScript.ScriptFault.{ScriptFault}
 use Rattle.mh_command_line.specs.declared.fault.LineFault.{LineFault}
 use Rattle.mh_orders.specs.declared.order.Order.{Order}
-use Rattle.mh_orders.specs.declared.order.Order.TheVariants.{Run, Steps, Show, Live, Race, Check, CheckSessions, CheckLog, Audit, Migrate, Generate, Version, Chrome, Cycles, Curve, CurveHistory, CurvePauses, Size, SizeRate, SizeTarget, SizeScript}
+use Rattle.mh_orders.specs.declared.order.Order.TheVariants.{Run, Steps, Show, Live, Race, Check, CheckSessions, CheckLog, Audit, Migrate, Generate, Version, Chrome, Cycles, Curve, CurveHistory, CurvePauses, SizeRoom, SizeTarget, SizeScript}
 use Rattle.mh_orders.specs.declared.order.LiveHeap.{LiveHeap}
 use Rattle.mh_orders.specs.declared.order.StepsOptions.{StepsOptions}
 use Rattle.mh_orders.specs.declared.range.RangeOptions.{RangeOptions}
@@ -36,13 +36,15 @@ use Rattle.mh_live.specs.OfScript.Run.{Device, IsRun, transcript}
 use Rattle.mh_chrome.specs.Runs.{DrawsReplies, chrome_text}
 use Rattle.mh_cycles.specs.Lines.{cycles_text}
 use Rattle.mh_show.specs.Page.{ShowsReplies, page_text}
-use Rattle.mh_size_text.specs.Heaps.{IsHeapText}
-use Rattle.mh_size_text.specs.Rates.{IsRateText}
+use Rattle.mh_size_text.specs.declared.end.SizeEnd.{SizeEnd}
+use Rattle.mh_size_text.specs.declared.end.SizeEnd.TheVariants as size
 use Rattle.mh_size_text.specs.Scripts.{IsSizing}
-use Rattle.mh_size_text.specs.Targets.{IsTargetText}
+use Rattle.mh_sizing.specs.Texts.{IsRoomText, IsTargetText}
+use Rattle.mh_sizing.specs.declared.text.SizeText.{SizeText}
+use Rattle.std.specs.String.{string_bytes}
 use Rattle.mh_show.specs.OfTelling.Steps.{TellsReplies, told_text}
-use Rattle.mh_program.specs.Status.{judgement_status_of, line_status_of, live_status_of, log_status_of, sessions_status_of, status_of, curve_status_of}
-use Rattle.mh_program.specs.Complaints.{ErrorStream, SaysEnd, SaysFault, SaysJudgement, SaysLine, SaysLog, SaysRefusals, SaysRun, SaysSeen, SaysCurve}
+use Rattle.mh_program.specs.Status.{judgement_status_of, line_status_of, live_status_of, log_status_of, sessions_status_of, size_status_of, status_of, curve_status_of}
+use Rattle.mh_program.specs.Complaints.{ErrorStream, SaysEnd, SaysFault, SaysJudgement, SaysLine, SaysLog, SaysRefusals, SaysRun, SaysSeen, SaysSized, SaysCurve}
 
 -- the line that names the version, the rules and the versions of histories, and what proved them
 abbrev pub version_text : Text
@@ -83,12 +85,17 @@ WritesScript options old new (Err Write) = WritesAsked AppendsBeginning options 
 WritesScript options old new (Err NoMemory) = WritesAsked AppendsBeginning options old.bytes new.bytes × (new.failures ≡ old.failures)
 WritesScript options old new ended = ⊥
 
--- a text of this kind was written whole, or a prefix of it if the device failed, and nothing if memory was refused
-abbrev pub WritesSize : (Text → Type 0) → Device → Device → Result End ScriptFault → Type 0
-WritesSize Is old new (Ok Done) = ((text : Text) × Is text × Appends old.bytes new.bytes text) × (new.failures ≡ old.failures)
-WritesSize Is old new (Err Write) = ((text : Text) × Is text × AppendsBeginning old.bytes new.bytes text) × (old.failures < new.failures)
+-- a text of this kind was written whole, by whether it has a size, or a prefix of one if the device failed, and nothing if memory was refused
+abbrev pub WritesSize : (Text → Bool → Type 0) → Device → Device → Result SizeEnd ScriptFault → Type 0
+WritesSize Is old new (Ok size.Sized) = ((text : Text) × Is text true × Appends old.bytes new.bytes text) × (new.failures ≡ old.failures)
+WritesSize Is old new (Ok size.NoSize) = ((text : Text) × Is text false × Appends old.bytes new.bytes text) × (new.failures ≡ old.failures)
+WritesSize Is old new (Err Write) = ((text : Text) × (found : Bool) × Is text found × AppendsBeginning old.bytes new.bytes text) × (old.failures < new.failures)
 WritesSize Is old new (Err NoMemory) = new ≡ old
 WritesSize Is old new ended = ⊥
+
+-- the text that was made, and whether it has a size
+abbrev pub IsMadeText : SizeText → Text → Bool → Type 0
+IsMadeText made text found = (text ≡ string_bytes made.text) × (found ≡ made.is_found)
 
 -- there was no order: nothing was read or written, and the reason was reported
 pub record Declines (source source' sink sink' : Device) (errors errors' : ErrorStream) (fault : LineFault) (status : ℕ) : Type 0 where
@@ -131,9 +138,8 @@ Serves (Ok (Curve rules options)) source source' sink sink' errors errors' statu
 Serves (Ok (CurveHistory options)) source source' sink sink' errors errors' status = Obeys (IsDrawing kind.History options source source' sink sink') (SaysRun SaysCurve) curve_status_of errors errors' status
 Serves (Ok (CurvePauses options)) source source' sink sink' errors errors' status = Obeys (IsDrawing kind.Pauses options source source' sink sink') (SaysRun SaysCurve) curve_status_of errors errors' status
 Serves (Ok (Generate options)) source source' sink sink' errors errors' status = (source' ≡ source) × Obeys (WritesScript options sink sink') SaysFault status_of errors errors' status
-Serves (Ok (Size options)) source source' sink sink' errors errors' status = (source' ≡ source) × Obeys (WritesSize (IsHeapText options) sink sink') SaysFault status_of errors errors' status
-Serves (Ok (SizeRate options)) source source' sink sink' errors errors' status = (source' ≡ source) × Obeys (WritesSize (IsRateText options) sink sink') SaysFault status_of errors errors' status
-Serves (Ok (SizeTarget options)) source source' sink sink' errors errors' status = (source' ≡ source) × Obeys (WritesSize (IsTargetText options) sink sink') SaysFault status_of errors errors' status
-Serves (Ok (SizeScript options)) source source' sink sink' errors errors' status = Obeys (IsSizing options source source' sink sink') (SaysRun SaysEnd) status_of errors errors' status
+Serves (Ok (SizeRoom options)) source source' sink sink' errors errors' status = (source' ≡ source) × Obeys (WritesSize (IsRoomText options) sink sink') SaysFault size_status_of errors errors' status
+Serves (Ok (SizeTarget options)) source source' sink sink' errors errors' status = (source' ≡ source) × Obeys (WritesSize (IsTargetText options) sink sink') SaysFault size_status_of errors errors' status
+Serves (Ok (SizeScript options)) source source' sink sink' errors errors' status = Obeys (IsSizing options source source' sink sink') (SaysRun SaysSized) size_status_of errors errors' status
 Serves (Ok Version) source source' sink sink' errors errors' status = (source' ≡ source) × Obeys (WritesVersion sink sink') SaysFault status_of errors errors' status
 Serves (Err fault) source source' sink sink' errors errors' status = Declines source source' sink sink' errors errors' fault status

@@ -13,6 +13,8 @@ use Rattle.mh_live.specs.OfScript.End.TheVariants.{Done, Refused}
 use Rattle.mh_command_line.specs.declared.fault.LineFault.{LineFault}
 use Rattle.mh_command_line.specs.declared.fault.LineFault.TheVariants.{Words, NotText, Configuration, NoMemory}
 use Rattle.mh_live.specs.OfScript.ScriptFault.{ScriptFault}
+use Rattle.mh_size_text.specs.declared.end.SizeEnd.{SizeEnd}
+use Rattle.mh_size_text.specs.declared.end.SizeEnd.TheVariants as size
 
 -- 0 for a script that was run, 1 for one that was refused; 3 for a fault of memory or of a device, and for a full history
 abbrev pub status_of : Result End ScriptFault → ℕ
@@ -49,6 +51,13 @@ abbrev pub curve_status_of : Result CurveEnd ScriptFault → ℕ
 curve_status_of (Ok (curve.Drawn broken)) = if is_any_broken broken then 4 else 0
 curve_status_of (Ok refused) = 1
 curve_status_of (Err fault) = 3
+
+-- 0 for a size that was written, 4 if it was written that there is none, 1 for a script that was refused, 3 for a fault
+abbrev pub size_status_of : Result SizeEnd ScriptFault → ℕ
+size_status_of (Ok size.Sized) = 0
+size_status_of (Ok size.NoSize) = 4
+size_status_of (Ok (size.Refused refusal)) = 1
+size_status_of (Err fault) = 3
 
 -- 2 for words that are refused, 3 if memory was refused
 abbrev pub line_status_of : LineFault → ℕ

@@ -7,7 +7,7 @@ ghost use Rattle.std.specs.Prelude.{◌≡◌, ◌+◌, IfOk, MatchResult};
 ghost use Rattle.std.specs.String.{string_bytes};
 ghost use Rattle.mh_model.specs.Bytes.{line_text};
 ghost use Rattle.mh_command_line.specs.Printable.{IsPrintable};
-ghost use Rattle.mh_program.specs.Complaints.{IsComplaint, More, None, Says, SaysBroken, SaysCurve, SaysEnd, SaysFault, SaysFound, SaysJudgement, SaysLine, SaysLog, SaysRefusal, SaysRefusals, SaysRun, SaysSeen, SaysTally, SaysWords, entry_place, fault_text, floor_text, line_place, order_place, outside_text, pause_text, stretch_text, tally_text};
+ghost use Rattle.mh_program.specs.Complaints.{IsComplaint, More, None, Says, SaysBroken, SaysCurve, SaysEnd, SaysFault, SaysFound, SaysJudgement, SaysLine, SaysLog, SaysRefusal, SaysRefusals, SaysRun, SaysSeen, SaysSized, SaysTally, SaysWords, entry_place, fault_text, floor_text, line_place, order_place, outside_text, pause_text, stretch_text, tally_text};
 
 use crate::errors::Errors;
 use arrayvec::ArrayString;
@@ -25,6 +25,7 @@ use mh_log::mh_sessions::tally::Tally;
 use mh_orders::order::ConfigOption;
 use mh_show::mh_curve::end::CurveEnd;
 use mh_show::mh_curve::promises::{Broken, LongPause, ShortStretch};
+use mh_size_text::end::SizeEnd;
 use mh_text::sink::Sink;
 use mh_windows::floor::BrokenFloor;
 use std::alloc::{AllocError, Global};
@@ -288,6 +289,25 @@ impl<E: Sink> Errors<E> {
     {
         match ended {
             Ok(end) => self.say_done(end),
+            Err(fault) => self.say(fault_line(*fault)),
+        }
+    }
+
+    fn say_size_end(&mut self, end: &SizeEnd)
+        ensures { SaysSized self.old self.new end.now }
+    {
+        match end {
+            SizeEnd::Sized | SizeEnd::NoSize => {}
+            SizeEnd::Refused(refusal) => self.say_refusal(refusal),
+        }
+    }
+
+    /// Says how the sizing of a script ended, if not well.
+    pub(crate) fn say_sized(&mut self, ended: &Result<SizeEnd, ScriptFault>)
+        ensures { SaysRun SaysSized self.old self.new ended.now }
+    {
+        match ended {
+            Ok(end) => self.say_size_end(end),
             Err(fault) => self.say(fault_line(*fault)),
         }
     }

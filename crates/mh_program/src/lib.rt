@@ -15,6 +15,7 @@ mod complaints;
 pub mod errors;
 pub mod launch;
 pub mod program;
+pub mod progress;
 pub mod prompt;
 mod run_curve;
 mod run_size;

@@ -23,7 +23,7 @@ ghost use Rattle.mh_cycles.specs.Lines.{cycles_text};
 
 use crate::errors::Errors;
 use crate::run_curve::{draw_other, draw_script};
-use crate::run_size::{size_heap, size_needs, size_rate, size_target};
+use crate::run_size::{size_room, size_run, size_target};
 use crate::status::{
     judgement_status, line_status, live_status, log_status, sessions_status, status,
 };
@@ -54,6 +54,7 @@ use mh_race_text::race::race_script;
 use mh_show::mh_curve::kind::TextKind;
 use mh_show::mh_steps::run::tell_script;
 use mh_show::run::show_script;
+use mh_size_text::progress::Progress;
 use mh_text::sink::Sink;
 use mh_text::source::Source;
 use mh_text::stream::write_text;
@@ -419,7 +420,14 @@ fn version<W: Sink, E: Sink>(sink: &mut W, errors: &mut Errors<E>) -> u8
 }
 
 /// Does what the command line asks for, writes to `errors` what went wrong, and gives the exit status.
-pub fn serve<R: Threads + Wait + Sync, S: Source, W: Sink, E: Sink, G: CrewGate + Sync>(
+pub fn serve<
+    R: Threads + Wait + Sync,
+    S: Source,
+    W: Sink,
+    E: Sink,
+    G: CrewGate + Sync,
+    P: Progress,
+>(
     rt: &R,
     alloc: Global,
     order: Result<Order, LineFault>,
@@ -427,6 +435,7 @@ pub fn serve<R: Threads + Wait + Sync, S: Source, W: Sink, E: Sink, G: CrewGate 
     sink: &mut W,
     errors: &mut Errors<E>,
     gate: &G,
+    progress: &mut P,
 ) -> u8
     requires few { IfOk order HasFewWorkers }
     requires rules { IfOk order HasFirstRules }
@@ -470,10 +479,9 @@ pub fn serve<R: Threads + Wait + Sync, S: Source, W: Sink, E: Sink, G: CrewGate 
             errors,
         ),
         Ok(Order::Generate(options)) => write_script(alloc, options, sink, errors),
-        Ok(Order::Size(options)) => size_heap(alloc, options, sink, errors),
-        Ok(Order::SizeRate(options)) => size_rate(alloc, options, sink, errors),
+        Ok(Order::SizeRoom(options)) => size_room(alloc, options, sink, errors),
         Ok(Order::SizeTarget(options)) => size_target(alloc, options, sink, errors),
-        Ok(Order::SizeScript(options)) => size_needs(alloc, options, source, sink, errors),
+        Ok(Order::SizeScript(options)) => size_run(alloc, options, source, sink, errors, progress),
         Ok(Order::Version) => version(sink, errors),
         Err(fault) => {
             errors.say_line(&fault);
@@ -484,7 +492,14 @@ pub fn serve<R: Threads + Wait + Sync, S: Source, W: Sink, E: Sink, G: CrewGate 
 
 /// The program: does what the words of the command line ask for, of which the first is its own name, writes to `errors` what
 /// went wrong, and gives the exit status.
-pub fn program<R: Threads + Wait + Sync, S: Source, W: Sink, E: Sink, G: CrewGate + Sync>(
+pub fn program<
+    R: Threads + Wait + Sync,
+    S: Source,
+    W: Sink,
+    E: Sink,
+    G: CrewGate + Sync,
+    P: Progress,
+>(
     rt: &R,
     alloc: Global,
     words: Result<Vec<String>, LineFault>,
@@ -492,6 +507,7 @@ pub fn program<R: Threads + Wait + Sync, S: Source, W: Sink, E: Sink, G: CrewGat
     sink: &mut W,
     errors: &mut Errors<E>,
     gate: &G,
+    progress: &mut P,
 ) -> u8
     requires source_count { S.failures source.old < 2 ^ 62 }
     requires sink_count { W.failures sink.old < 2 ^ 62 }
@@ -503,5 +519,5 @@ pub fn program<R: Threads + Wait + Sync, S: Source, W: Sink, E: Sink, G: CrewGat
         errors.old errors.new result }
 {
     let order = line_order(alloc, words);
-    serve(rt, alloc, order, source, sink, errors, gate)
+    serve(rt, alloc, order, source, sink, errors, gate, progress)
 }

@@ -1,7 +1,7 @@
 //! The exit status of each end. It is 0 if all went well, 1 for a text that is refused, 2 for words that are. It is 3
-//! for a fault, and 4 for a history that isn't legal or a promise that isn't kept.
+//! for a fault, and 4 for a history that isn't legal, a promise that isn't kept or a size that there is none of.
 ghost use Rattle.std.specs.Prelude.{◌≡◌};
-ghost use Rattle.mh_program.specs.Status.{curve_status_of, judgement_status_of, line_status_of, live_status_of, log_status_of, sessions_status_of, status_of};
+ghost use Rattle.mh_program.specs.Status.{curve_status_of, judgement_status_of, line_status_of, live_status_of, log_status_of, sessions_status_of, size_status_of, status_of};
 
 use mh_command_line::fault::LineFault;
 use mh_live::mh_script::end::End;
@@ -10,6 +10,7 @@ use mh_log::judgement::LogJudgement;
 use mh_log::mh_sessions::mh_judging::judgement::Judgement;
 use mh_log::mh_sessions::sessions_judgement::SessionsJudgement;
 use mh_show::mh_curve::end::CurveEnd;
+use mh_size_text::end::SizeEnd;
 
 /// The exit status that a run of a script gives the program.
 pub fn status(ended: &Result<End, ScriptFault>) -> u8
@@ -78,6 +79,18 @@ pub fn curve_status(ended: &Result<CurveEnd, ScriptFault>) -> u8
         Ok(CurveEnd::Drawn(broken)) if broken.any() => 4,
         Ok(CurveEnd::Drawn(_)) => 0,
         Ok(_) => 1,
+        Err(_) => 3,
+    }
+}
+
+/// The exit status that a size gives the program.
+pub fn size_status(ended: &Result<SizeEnd, ScriptFault>) -> u8
+    ensures { result ≡ size_status_of ended.now }
+{
+    match ended {
+        Ok(SizeEnd::Sized) => 0,
+        Ok(SizeEnd::NoSize) => 4,
+        Ok(SizeEnd::Refused(_)) => 1,
         Err(_) => 3,
     }
 }

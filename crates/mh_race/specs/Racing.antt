@@ -19,7 +19,7 @@ abbrev pub IsFresh : ServiceView → Racer → Type 0
 IsFresh service racer = IsNewSeat service racer.seat × (racer.stop ≡ None)
 
 -- A service refused a seat's call of this event for this reason, and left the seat as it was. The state that the call found refused it, for a full
--- history just if it had 1,000,000 entries; or the seat's log got no memory
+-- history just if it had 1,000,000 entries; or the reason is refused memory
 abbrev pub WasRefused : ServiceView → LockSeatView Entry → Event → Stop → Type 0
 WasRefused service seat event stop = IsServed service seat seat event (Err stop) ⊎ (stop ≡ NoMemory)
 

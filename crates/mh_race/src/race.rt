@@ -6,7 +6,7 @@
 //! The calls of each seat alone say what a race leaves, so nothing is said of the order between seats. For each seat by
 //! itself a refusal is reported exactly if not all of its calls are in the history (`each`). The call that comes next was
 //! then refused, for the reason that is reported (`reasons`): a full history only if that call found 1,000,000 entries.
-//! A log that gets no memory may refuse any call, so no contract says when a seat is refused.
+//! Memory may be refused to any call, so no contract says when a seat is refused for want of it.
 //!
 //! `Raced::stop` reports the gravest refusal. That is refused memory, with 1,000,000 entries only if some seat was
 //! refused it. A full history is reported only with as many. A race that met one, and was never refused memory, looks

@@ -1,15 +1,10 @@
 -- The windows of a list, each by the one before it, and units of a window as a share of it.
 use Rattle.std.specs.Prelude.{ℕ, ◌+◌, ◌*◌, ◌/◌, ◌%◌, max, ◌++◌, codes, decimal}
-use Rattle.std.specs.Int.{div_ceil}
 use Rattle.mh_model.specs.Bytes.{Text}
 
 -- the window after one: an eighth longer, rounded down, and 1 longer at least
-abbrev pub next_window_rounded_down : ℕ → ℕ
-next_window_rounded_down window = window + max 1 (window / 8)
-
--- the window after one: an eighth longer, rounded up
-abbrev pub next_window_rounded_up : ℕ → ℕ
-next_window_rounded_up window = window + div_ceil window 8
+abbrev pub next_window : ℕ → ℕ
+next_window window = window + max 1 (window / 8)
 
 -- units of a window as parts of ten thousand of it, rounded down
 abbrev pub share_of : ℕ → ℕ → ℕ

@@ -1,26 +1,17 @@
-//! The windows of a list, each by the one before it, and units of a window as a share of it. There are two ways to the
-//! next window, since the lists of a curve and of floors have been written by either. A share is in hundredths of a per
-//! cent, rounded down, since all numbers here are whole.
+//! The windows of a list, each by the one before it, and units of a window as a share of it. A share is in hundredths of a
+//! per cent, rounded down, since all numbers here are whole.
 ghost use Rattle.std.specs.Prelude.{◌≡◌, ◌<◌, Some};
 ghost use Rattle.mh_model.specs.declared.birth.TheConstants.{LIFE};
-ghost use Rattle.mh_report.specs.Windows.{next_window_rounded_down, next_window_rounded_up, percent_text, share_of};
+ghost use Rattle.mh_report.specs.Windows.{next_window, percent_text, share_of};
 
 use std::fmt;
 
 /// The window after one: an eighth longer, rounded down, and 1 longer at least.
-pub fn next_window_rounded_down(window: u64) -> u64
+pub fn next_window(window: u64) -> u64
     requires { window < LIFE }
-    ensures { result ≡ next_window_rounded_down window }
+    ensures { result ≡ next_window window }
 {
     window + (window / 8).max(1)
-}
-
-/// The window after one: an eighth longer, rounded up.
-pub fn next_window_rounded_up(window: u64) -> u64
-    requires { window < LIFE }
-    ensures { result ≡ next_window_rounded_up window }
-{
-    window + window.div_ceil(8)
 }
 
 /// Units of a window as parts of ten thousand of it, rounded down.

@@ -1,3 +1,10 @@
+pub mod FullLemmas
+pub mod InARowLemmas
 pub mod BoundLemmas
 pub mod SeenLemmas
-pub mod EdgeLemmas
+pub mod LawLemmas
+pub mod ClassLemmas
+pub mod TriedLemmas
+pub mod ConfigLemmas
+pub mod LiveLemmas
+pub mod RowLemmas

@@ -1,3 +1,11 @@
-pub mod Seen
+pub mod Full
+pub mod Tried
+pub mod Fewest
+pub mod Spans
+pub mod ClassCounts
 pub mod Samples
-pub mod Edges
+pub mod Seen
+pub mod Facts
+pub mod Watched
+pub mod Rows
+pub mod Live

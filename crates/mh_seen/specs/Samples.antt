@@ -1,29 +1,26 @@
--- What is read of a heap between two events, and what an event adds to what was seen.
-use Rattle.std.specs.Prelude.{ℕ, ◌+◌, ◌-◌, min, max, nat_lt, Bool, not, ◌&&◌, ◌||◌, if◌then◌else◌}
-use Rattle.mh_model.specs.declared.reply.Reply.{Reply}
+-- What is read of a machine between two events, and what two readings say of the event between them.
+use Rattle.std.specs.Prelude.{ℕ, ◌+◌, nat_lt, Bool, not, ◌&&◌, ◌||◌, if◌then◌else◌}
 use Rattle.mh_model.specs.Collector.{Collector, is_idle}
+use Rattle.mh_model.specs.Machine.{Machine}
 use Rattle.mh_model.specs.Pages.{free_pages}
-use Rattle.mh_model.specs.Snapshot.{is_heap_full}
 use Rattle.mh_seen.specs.declared.sample.Sample.{Sample}
-use Rattle.mh_seen.specs.declared.seen.Seen.{Seen}
+use Rattle.mh_seen.specs.declared.sample.Stage.{Stage}
 
-abbrev pub sample_of : Collector → Sample
-sample_of collector = record { free = free_pages collector.table; is_idle = is_idle collector.phase; cycle = collector.cycle; quanta = collector.quanta }
+abbrev pub stage_of : Collector → Stage
+stage_of collector = record { is_idle = is_idle collector.phase; cycle = collector.cycle }
 
--- a cycle has ended between two samples, which is `has_ended` of their collectors
-abbrev pub ended_between : Sample → Sample → Bool
+abbrev pub sample_of : Machine → Sample
+sample_of machine = record {
+  stage = stage_of machine.heap.collector;
+  free = free_pages machine.heap.collector.table;
+  quanta = machine.heap.collector.quanta;
+  quanta_run = machine.trace.quanta;
+}
+
+-- a cycle has ended between two stages, which is `has_ended` of their collectors
+abbrev pub ended_between : Stage → Stage → Bool
 ended_between old new = new.is_idle && (not old.is_idle || nat_lt old.cycle new.cycle)
 
--- how many quanta a cycle has had, which is `quanta_had` of their collectors
+-- how many quanta a cycle takes at least, by two samples, which is `quanta_taken` of their collectors
 abbrev pub quanta_between : Sample → Sample → ℕ
-quanta_between old new = if ended_between old new then old.quanta + 1 else new.quanta
-
--- what was seen in a heap of so many pages, with an event more: the samples before it and after it, and its reply
-abbrev pub noted : ℕ → Sample → Sample → Reply → Seen → Seen
-noted pages old new answer seen = record {
-  cycles = seen.cycles + (if ended_between old new then 1 else 0);
-  quanta = max seen.quanta (quanta_between old new);
-  free = min seen.free new.free;
-  in_use = max seen.in_use (if ended_between old new then pages - new.free else 0);
-  refused = seen.refused + (if is_heap_full answer then 1 else 0);
-}
+quanta_between old new = if ended_between old.stage new.stage then old.quanta + 1 else (if new.stage.is_idle then 0 else new.quanta + 1)

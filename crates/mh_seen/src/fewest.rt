@@ -1,69 +1,114 @@
-//! Pages in which a run has no full heap while in one fewer it has one. They are found by running it, in as many heaps
-//! as the search by halves tries: 13 at most.
+//! Pages in which a run has no full heap with some trigger, while in one page less it has one with each of five.
 //!
-//! This is no law. Pages that are enough needn't stay so as they grow, since each number of pages has its cycles at
-//! other moments. So the search ends at an edge (`IsEdge`), and a lesser number farther down may be enough too.
-ghost use Rattle.std.specs.Prelude.{◌≡◌, ◌↔◌, ◌≤◌, length, IfOk, IfSome, IsNone, IsTrue};
+//! They are found by doubling and then by halves, with some thirty runs, of which most end early. This is no law. Pages
+//! that suffice needn't go on to do so as they grow, since each number of pages has its cycles at other moments. So the
+//! search ends at an edge (`IsEdge`), and a lesser number farther down may suffice too.
+ghost use Rattle.std.specs.Prelude.{◌≡◌, ◌≤◌, length, IfOk};
 ghost use Rattle.mh_model.specs.Limits.{most_entries};
-ghost use Rattle.mh_seen.specs.Edges.{FitsIn, HasNoFullReply, IsEdge, with_pages};
+ghost use Rattle.mh_seen.specs.Fewest.{IsEdge, IsFewest};
+ghost use Rattle.mh_seen.specs.Spans.{IsSpan, IsSpanned};
 
-use crate::full::is_never_full;
+use crate::edge::{Edge, Fewest};
+use crate::tried::{Tried, try_triggers};
 use mh_machine::mh_scan::scan::Scanner;
 use mh_model::command::Event;
 use mh_model::config::Config;
+use mh_model::limits::MOST_PAGES;
 use mh_model::memory::NoMemory;
 use std::alloc::Global;
 
-/// The heap of so many pages with what a configuration has besides. Its trigger is at most its pages. None outside the
-/// limits.
-pub fn with_pages(config: &Config, pages: u32) -> Option<Config>
-    ensures { result ≡ with_pages config.now pages }
-{
-    let trigger = config.trigger.min(pages);
-    Config::under(config.rules(), pages, config.quantum, trigger, config.every)
+/// Pages that suffice, and fewer that don't.
+#[derive(Clone, Copy)]
+pub(crate) struct Span {
+    /// 0 if no fewer were tried.
+    pub(crate) few: u32,
+    /// The event by which a run in the fewer pages is full.
+    pub(crate) event: u64,
+    pub(crate) enough: u32,
+    pub(crate) trigger: u32,
 }
 
-/// Whether a run has no full heap in so many pages.
-fn fits<S: Scanner>(
+/// Doubles pages until they suffice. `Err` has the event by which a run is full in the most.
+fn doubled<S: Scanner>(
     alloc: Global,
     config: &Config,
     events: &[Event],
-    pages: u32,
     scanner: &mut S,
-) -> Result<bool, NoMemory>
+) -> Result<Result<Span, u64>, NoMemory>
     requires { length events.now ≤ most_entries }
-    ensures { IfOk result (λ fits. IsTrue fits ↔ FitsIn config.now events.now pages) }
+    ensures { IfOk result (IsSpanned config.now events.now) }
 {
-    match with_pages(config, pages) {
-        None => Ok(false),
-        Some(heap) => is_never_full(alloc, heap, events, scanner),
-    }
-}
-
-/// Pages in which a run has no full heap, while in one fewer it has one or there are none. The search by halves begins at
-/// the pages of the configuration. None exactly if the run has a full heap in these.
-pub fn fewest_seen<S: Scanner>(
-    alloc: Global,
-    config: Config,
-    events: &[Event],
-    scanner: &mut S,
-) -> Result<Option<u32>, NoMemory>
-    requires { length events.now ≤ most_entries }
-    ensures none { IfOk result (λ found. IsNone found ↔ (HasNoFullReply config events.now → ⊥)) }
-    ensures edge { IfOk result (λ found. IfSome found (IsEdge config events.now)) }
-{
-    if !is_never_full(alloc, config, events, scanner)? {
-        return Ok(None);
-    }
     let mut few = 0;
-    let mut enough = config.pages;
-    while enough - few > 1 {
-        let middle = few + (enough - few) / 2;
-        if fits(alloc, &config, events, middle, scanner)? {
-            enough = middle;
-        } else {
-            few = middle;
+    let mut latest = 0;
+    while few < MOST_PAGES {
+        let enough = (few * 2).clamp(1, MOST_PAGES);
+        match try_triggers(alloc, config, events, enough, scanner)? {
+            Tried::Fits(trigger) => {
+                return Ok(Ok(Span {
+                    few,
+                    event: latest,
+                    enough,
+                    trigger,
+                }));
+            }
+            Tried::Full(event) => {
+                few = enough;
+                latest = event;
+            }
         }
     }
-    Ok(Some(enough))
+    Ok(Err(latest))
+}
+
+/// Halves what lies between until it is one page.
+fn halved<S: Scanner>(
+    alloc: Global,
+    config: &Config,
+    events: &[Event],
+    first: Span,
+    scanner: &mut S,
+) -> Result<Edge, NoMemory>
+    requires few { length events.now ≤ most_entries }
+    requires span { IsSpan config.now events.now first }
+    ensures { IfOk result (IsEdge config.now events.now) }
+{
+    let mut span = first;
+    while span.enough - span.few > 1 {
+        let middle = span.few + (span.enough - span.few) / 2;
+        match try_triggers(alloc, config, events, middle, scanner)? {
+            Tried::Fits(trigger) => {
+                span.enough = middle;
+                span.trigger = trigger;
+            }
+            Tried::Full(event) => {
+                span.few = middle;
+                span.event = event;
+            }
+        }
+    }
+    Ok(Edge {
+        pages: span.enough,
+        trigger: span.trigger,
+        below: if span.few == 0 {
+            None
+        } else {
+            Some(span.event)
+        },
+    })
+}
+
+/// The fewest pages that the search ends at, with the first of the five triggers with which they suffice.
+pub fn fewest<S: Scanner>(
+    alloc: Global,
+    config: &Config,
+    events: &[Event],
+    scanner: &mut S,
+) -> Result<Fewest, NoMemory>
+    requires { length events.now ≤ most_entries }
+    ensures { IfOk result (IsFewest config.now events.now) }
+{
+    match doubled(alloc, config, events, scanner)? {
+        Ok(span) => Ok(Fewest::Found(halved(alloc, config, events, span, scanner)?)),
+        Err(event) => Ok(Fewest::Nowhere(event)),
+    }
 }

@@ -1,12 +1,9 @@
-//! Whether a reply of a run is a full heap. The run stops at the first that is.
-//!
-//! No law is behind the answer: the events are run. `IsNeverFull` of the model says besides that no new object goes into
-//! a flagged page, of which nothing is said here.
-ghost use Rattle.std.specs.Prelude.{◌≡◌, ◌↔◌, ◌+◌, ◌≤◌, length, IfOk, IsTrue};
+//! The first event of a run that is answered by a full heap. The run stops there.
+ghost use Rattle.std.specs.Prelude.{◌≡◌, ◌+◌, ◌≤◌, length, IfOk};
 ghost use Rattle.mh_model.specs.Limits.{most_entries};
 ghost use Rattle.mh_model.specs.Machine.{machine_replies};
 ghost use Rattle.mh_model.specs.Snapshot.{is_heap_full};
-ghost use Rattle.mh_seen.specs.Edges.{AreNotFull, HasNoFullReply};
+ghost use Rattle.mh_seen.specs.Full.{first_full, first_full_among};
 
 use mh_machine::machine::Machine;
 use mh_machine::mh_scan::scan::Scanner;
@@ -23,34 +20,36 @@ pub(crate) fn is_heap_full(reply: &Reply) -> bool
     matches!(reply, Reply::Refused(Refusal::HeapFull))
 }
 
-/// Does events until a reply is a full heap, and answers whether none was.
-fn runs_on<S: Scanner>(
+/// Does events until a reply is a full heap, and answers the number of the event that was answered so, counted from 1.
+fn first_full_of<S: Scanner>(
     machine: &mut Machine,
     events: &[Event],
     scanner: &mut S,
-) -> Result<bool, NoMemory>
+) -> Result<Option<u64>, NoMemory>
     requires { machine.old.done + length events.now ≤ most_entries }
-    ensures { IfOk result (λ none. IsTrue none ↔ AreNotFull (machine_replies machine.old.machine events.now)) }
+    ensures { IfOk result (λ first. first ≡ first_full_among (machine_replies machine.old.machine events.now)) }
 {
+    let mut number = 0;
     for event in events {
+        number += 1;
         let reply = machine.step_in_room(*event, scanner)?;
         if is_heap_full(&reply) {
-            return Ok(false);
+            return Ok(Some(number));
         }
     }
-    Ok(true)
+    Ok(None)
 }
 
-/// Whether no reply to these events is a full heap, found by running them.
-pub fn is_never_full<S: Scanner>(
+/// The number of the first of these events that is answered by a full heap, counted from 1, found by running them.
+pub fn first_full<S: Scanner>(
     alloc: Global,
     config: Config,
     events: &[Event],
     scanner: &mut S,
-) -> Result<bool, NoMemory>
+) -> Result<Option<u64>, NoMemory>
     requires { length events.now ≤ most_entries }
-    ensures { IfOk result (λ never. IsTrue never ↔ HasNoFullReply config events.now) }
+    ensures { IfOk result (λ first. first ≡ first_full config events.now) }
 {
     let mut machine = Machine::open(alloc, config)?;
-    runs_on(&mut machine, events, scanner)
+    first_full_of(&mut machine, events, scanner)
 }

@@ -1,16 +1,22 @@
-//! Facts of one run, found by running it: cycles, the most quanta of one, free pages, pages in use, and replies that
-//! were a full heap. Each is exactly that of the model's run.
+//! What a run does in heaps of other sizes, found by running it: the fewest pages in which no reply is a full heap, what is
+//! live, and what is seen of a run in one heap. Each is exactly that of the model's run, and no law is behind it but
+//! the law of room, which says what is so of other programs too.
 //!
-//! They are facts of these events in this heap and no laws. The laws of sizing say what is enough for any run of a
-//! kind, and this what one run was seen to do. Beside each other they show how far the bounds are from a run.
-//!
-//! `seen` has these numbers, `full` whether any reply is a full heap, and `fewest` the pages that a search by halves
-//! ends at.
+//! `full` has the first event that is answered by a full heap, `tried` tries five triggers in so many pages, `fewest`
+//! searches for pages by them, `live` looks at what is live, `seen` at a run in one heap, and `rows` chooses the trigger
+//! with which it is looked at.
 #![tactic(auto)]
 
 pub use mh_machine::mh_scan;
 
+mod class_counts;
+pub mod edge;
 pub mod fewest;
 pub mod full;
+mod in_a_row;
+pub mod live;
+pub mod rows;
 mod sample;
 pub mod seen;
+pub mod tried;
+mod watched;

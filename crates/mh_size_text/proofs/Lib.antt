@@ -1,4 +1,1 @@
-pub mod WindowLemmas
-pub mod HeapLemmas
 pub mod SizingLemmas
-pub mod EnoughHeaps

@@ -1,9 +1,3 @@
+pub mod Sizes
 pub mod Texts
-pub mod Floors
-pub mod Blocks
-pub mod Allocation
-pub mod Heaps
-pub mod Rates
-pub mod Targets
-pub mod SeenTexts
 pub mod Scripts

@@ -1,109 +1,127 @@
--- The lines that size a heap.
-use Rattle.std.specs.Prelude.{ℕ, Bool, true, false, Option, None, Some, List, [], ◌∷◌, ◌++◌, codes, decimal}
+-- The lines of a script's sizes.
+use Rattle.std.specs.Prelude.{ℕ, ◌+◌, ◌-◌, ◌*◌, ◌/◌, max, nat_lt, Bool, true, false, Option, None, Some, length, map, List, [], ◌∷◌, ◌++◌, codes, decimal}
 use Rattle.mh_model.specs.Bytes.{Text, joined, lines_text}
 use Rattle.mh_model.specs.Replies.{optional_word}
+use Rattle.mh_model.specs.declared.command.Event.{Event}
+use Rattle.mh_model.specs.declared.command.Event.TheVariants as event
 use Rattle.mh_model.specs.declared.config.Config.{Config}
-use Rattle.mh_sizing.specs.Cycles.{cycle_units, cycle_quanta}
-use Rattle.mh_sizing.specs.Enough.{is_enough, quantum_needed}
-use Rattle.mh_sizing.specs.declared.after.Startup.{Startup}
-use Rattle.mh_sizing.specs.declared.found.Law.{Law}
-use Rattle.mh_sizing.specs.declared.found.Law.TheVariants.{Footprint, Easy, Sharp, Started}
-use Rattle.mh_sizing.specs.declared.found.Found.{Found}
-use Rattle.mh_sizing.specs.declared.profile.Profile.{Profile}
+use Rattle.mh_model.specs.declared.report.Report.{Report}
+use Rattle.mh_report.specs.Windows.{percent_text, share_of}
+use Rattle.mh_seen.specs.declared.edge.Edge.{Edge}
+use Rattle.mh_seen.specs.declared.live.Live.{Live}
+use Rattle.mh_seen.specs.declared.rows.Outcome.{Outcome}
+use Rattle.mh_seen.specs.declared.rows.Outcome.TheVariants.{Fits, Full}
+use Rattle.mh_seen.specs.declared.seen.HasRoom.{HasRoom}
+use Rattle.mh_seen.specs.declared.seen.HasRoom.TheVariants.{Yes, No, NoCycle}
+use Rattle.mh_seen.specs.declared.seen.Seen.{Seen}
+use Rattle.mh_seen.specs.Seen.{greatest}
+use Rattle.mh_size_text.specs.declared.sizes.Heaps.{Heaps}
+use Rattle.mh_size_text.specs.declared.sizes.Heaps.TheVariants.{Found, Nowhere}
+use Rattle.mh_size_text.specs.declared.sizes.Rows.{Rows}
+use Rattle.mh_size_text.specs.declared.sizes.Sizes.{Sizes}
+use Rattle.mh_size_text.specs.declared.sizes.Times.TheVariants.{One, OneAndAQuarter, OneAndAHalf, Two, Three}
+use Rattle.mh_size_text.specs.Sizes.{pages_in}
 
--- a word and a number
-abbrev pub number_line : Text → ℕ → Text
-number_line word number = joined (word ∷ decimal number ∷ [])
+-- The script -------------------------------------------------------------------------------------
 
--- a word and a number, or `none`
-abbrev pub optional_line : Text → Option ℕ → Text
-optional_line word number = joined (word ∷ optional_word number ∷ [])
+-- the number of the session of an event, counted from 1; 0 for a control
+abbrev pub session_of : Event → ℕ
+session_of (event.Session who command) = who + 1
+session_of (event.Control control) = 0
 
--- `yes` or `no`
-abbrev pub answer_word : Bool → Text
-answer_word true = codes "yes"
-answer_word false = codes "no"
+-- how many sessions these events have, which are numbered as they come
+unfoldable pub session_count : List Event → ℕ
+session_count events = greatest (map session_of events)
 
--- what sessions need, how many classes their parts are of, and the fewest slots of a page of these; and the pages that live parts fill
-abbrev pub profile_lines : Profile → List Text
-profile_lines profile =
-    number_line (codes "live") profile.needs.live
-    ∷ number_line (codes "marked") profile.needs.marking_units
-    ∷ number_line (codes "asked") profile.needs.asked
-    ∷ number_line (codes "opened") profile.needs.opened
-    ∷ number_line (codes "page") profile.needs.page_units
-    ∷ number_line (codes "kinds") profile.kinds.kinds
-    ∷ number_line (codes "slots") profile.kinds.fewest_slots
-    ∷ number_line (codes "filled") profile.filled
-    ∷ []
+-- of so many events and sessions
+abbrev pub script_line : Config → ℕ → ℕ → Live → Text
+script_line config events sessions live =
+    joined (codes "script" ∷ codes "events" ∷ decimal events ∷ codes "units" ∷ decimal live.units ∷ codes "objects" ∷ decimal live.objects ∷ codes "sessions" ∷ decimal sessions ∷ codes "quantum" ∷ decimal config.quantum ∷ codes "every" ∷ decimal config.every ∷ [])
 
--- what the intervals of a run open together
-abbrev pub footprint_line : Profile → Text
-footprint_line profile = optional_line (codes "footprint") profile.footprint
+-- What is live -----------------------------------------------------------------------------------
 
--- a startup: the pages that its parts fill, and those that are anchored; and what is needed after it: live parts beside those that stay in these, the parts
--- that an interval makes and the pages that it opens, and the pages that those live parts fill
-abbrev pub startup_lines : Startup → List Text
-startup_lines startup =
-    joined (codes "startup" ∷ decimal startup.pages ∷ decimal startup.anchored ∷ []) ∷ joined (codes "rest" ∷ decimal startup.needs.live ∷ decimal startup.needs.asked ∷ decimal startup.needs.opened ∷ decimal startup.filled ∷ []) ∷ []
+-- fewer than 10 cycles ended in the fewest pages, if there are such
+abbrev pub is_short_in : Outcome → Option Bool
+is_short_in (Fits trigger seen) = Some (nat_lt seen.cycles 10)
+is_short_in (Full number) = None
 
--- the same if some first events are said to be one, or that they are none
-abbrev pub startup_text : Option ℕ → Option Startup → Text
-startup_text None startup = []
-startup_text (Some first) None = lines_text (optional_line (codes "startup") None ∷ [])
-startup_text (Some first) (Some startup) = lines_text (startup_lines startup)
+abbrev pub is_short : Heaps → Option Bool
+is_short (Found edge rows) = is_short_in rows.one
+is_short (Nowhere number) = None
 
--- the law by which a heap is enough
-abbrev pub law_word : Law → Text
-law_word Footprint = codes "footprint"
-law_word Easy = codes "easy"
-law_word Sharp = codes "sharp"
-law_word Started = codes "startup"
+-- `yes`, `no` or `none`
+abbrev pub answer_word : Option Bool → Text
+answer_word None = codes "none"
+answer_word (Some true) = codes "yes"
+answer_word (Some false) = codes "no"
 
--- Heaps that are found ---------------------------------------------------------------------------
+abbrev pub quarter_words : Option (List ℕ) → List Text
+quarter_words None = codes "none" ∷ codes "quarters" ∷ codes "none" ∷ []
+quarter_words (Some quarters) = decimal (greatest quarters) ∷ codes "quarters" ∷ map decimal quarters
 
--- what a cycle of a heap takes that was found, and its numbers
-abbrev pub found_lines : Profile → Config → List Text
-found_lines profile config =
-    number_line (codes "quantum") config.quantum
-    ∷ number_line (codes "units") (cycle_units profile.needs config)
-    ∷ number_line (codes "quanta") (cycle_quanta profile.needs config)
-    ∷ number_line (codes "trigger") config.trigger
-    ∷ number_line (codes "pages") config.pages
-    ∷ []
+-- the most that is live, that of each quarter, and whether the script is short
+abbrev pub live_line : Option (List ℕ) → Option Bool → Text
+live_line quarters short = joined (codes "live" ∷ (quarter_words quarters ++ codes "short" ∷ answer_word short ∷ []))
 
--- and from where on each number of pages is enough, and by which law
-abbrev pub found_text : Profile → Found → Text
-found_text profile found = lines_text (found_lines profile found.config) ++ (lines_text (optional_line (codes "from") found.from ∷ []) ++ lines_text (joined (codes "law" ∷ law_word found.law ∷ []) ∷ []))
+-- Heaps ------------------------------------------------------------------------------------------
 
--- the numbers of a heap if there is none
-abbrev pub no_numbers : Text
-no_numbers =
-    lines_text (optional_line (codes "units") None ∷ [])
-    ++ (lines_text (optional_line (codes "quanta") None ∷ []) ++ (lines_text (optional_line (codes "trigger") None ∷ []) ++ lines_text (optional_line (codes "pages") None ∷ [])))
+-- the event by which the run is full in one page less
+abbrev pub below_words : ℕ → Option ℕ → List Text
+below_words pages None = []
+below_words pages (Some number) = codes "below" ∷ decimal (pages - 1) ∷ codes "full" ∷ decimal number ∷ []
 
--- if no pages are enough with a quantum: that, and the least quantum with which 4,096 are
-abbrev pub none_text : Profile → ℕ → Text
-none_text profile quantum = lines_text (number_line (codes "quantum") quantum ∷ []) ++ (no_numbers ++ lines_text (optional_line (codes "quantum_enough") (quantum_needed profile 4096) ∷ []))
+abbrev pub edge_line : Edge → Text
+edge_line edge = joined (codes "fewest" ∷ decimal edge.pages ∷ codes "trigger" ∷ decimal edge.trigger ∷ below_words edge.pages edge.below)
 
--- the heap that is found for a configuration's quantum, or none
-abbrev pub search_text : Profile → Config → Option Found → Text
-search_text profile config (Some found) = found_text profile found
-search_text profile config None = none_text profile config.quantum
+abbrev pub nowhere_line : ℕ → Text
+nowhere_line number = joined (codes "fewest" ∷ codes "none" ∷ codes "full" ∷ decimal number ∷ [])
 
--- whether a configuration is enough
-abbrev pub enough_line : Profile → Config → Text
-enough_line profile config = joined (codes "enough" ∷ answer_word (is_enough profile config) ∷ [])
+abbrev pub room_word : HasRoom → Text
+room_word Yes = codes "yes"
+room_word No = codes "no"
+room_word NoCycle = codes "none"
 
--- the least quantum with which so many pages are enough
-abbrev pub least_line : Profile → ℕ → Text
-least_line profile pages = optional_line (codes "least") (quantum_needed profile pages)
+-- the collector's units for each of the mutator, in hundredths, rounded down
+abbrev pub ratio_of : ℕ → ℕ → ℕ
+ratio_of collector mutator = collector * 100 / max 1 mutator
 
--- whether a script's own configuration is enough, and with which quantum its pages are
-abbrev pub own_text : Profile → Config → Text
-own_text profile config = lines_text (enough_line profile config ∷ []) ++ lines_text (least_line profile config.pages ∷ [])
+-- units of a window in per cent of it, or `none`
+abbrev pub share_word : Option ℕ → ℕ → Text
+share_word None window = codes "none"
+share_word (Some units) window = percent_text (share_of units window)
 
--- What is written of a script: what its sessions ask of a heap, and after a startup if some first events are said to be one; the heap that is found for its quantum, and its own configuration
-abbrev pub size_text : Option ℕ → Profile → Config → Option Found → Text
-size_text first profile config found =
-    lines_text (profile_lines profile) ++ (lines_text (footprint_line profile ∷ []) ++ (startup_text first profile.startup ++ (search_text profile config found ++ own_text profile config)))
+-- the cycles of a run with a trigger
+unfoldable pub cycles_part : ℕ → Seen → Text
+cycles_part trigger seen = joined (codes "trigger" ∷ decimal trigger ∷ codes "cycles" ∷ decimal seen.cycles ∷ codes "quanta" ∷ decimal seen.quanta ∷ [])
+
+-- what its intervals open and its cycles leave, and whether that is room
+unfoldable pub room_part : Seen → Text
+room_part seen = joined (codes "opens" ∷ decimal seen.opens ∷ codes "left" ∷ optional_word seen.left ∷ codes "room" ∷ room_word seen.room ∷ [])
+
+-- the shares of the mutator and the collector
+unfoldable pub shares_part : Report → Text
+shares_part report =
+    joined (codes "collector" ∷ percent_text (ratio_of report.collector report.mutator) ∷ codes "window" ∷ decimal report.window ∷ codes "least" ∷ share_word report.least report.window ∷ codes "floor" ∷ share_word report.floor report.window ∷ [])
+
+abbrev pub outcome_words : Outcome → List Text
+outcome_words (Fits trigger seen) = cycles_part trigger seen ∷ room_part seen ∷ shares_part seen.report ∷ []
+outcome_words (Full number) = codes "full" ∷ decimal number ∷ []
+
+-- the line of a run in so many pages
+abbrev pub row_line : ℕ → Outcome → Text
+row_line pages outcome = joined (codes "pages" ∷ decimal pages ∷ outcome_words outcome)
+
+abbrev pub rows_text : ℕ → Rows → Text
+rows_text pages rows =
+    lines_text (row_line (pages_in pages One) rows.one ∷ [])
+    ++ (lines_text (row_line (pages_in pages OneAndAQuarter) rows.one_and_a_quarter ∷ [])
+    ++ (lines_text (row_line (pages_in pages OneAndAHalf) rows.one_and_a_half ∷ [])
+    ++ (lines_text (row_line (pages_in pages Two) rows.two ∷ []) ++ lines_text (row_line (pages_in pages Three) rows.three ∷ []))))
+
+abbrev pub heaps_text : Heaps → Text
+heaps_text (Found edge rows) = lines_text (edge_line edge ∷ []) ++ rows_text edge.pages rows
+heaps_text (Nowhere number) = lines_text (nowhere_line number ∷ [])
+
+-- What is written of a script's sizes
+abbrev pub sizes_text : Config → List Event → Sizes → Text
+sizes_text config events sizes = lines_text (script_line config (length events) (session_count events) sizes.live ∷ []) ++ (lines_text (live_line sizes.live.quarters (is_short sizes.heaps) ∷ []) ++ heaps_text sizes.heaps)

@@ -1,17 +1,11 @@
-//! What size a heap has to have for what its sessions need, as lines of a text.
+//! Sizes from text to text: a script is run in heaps of other sizes, and what was seen is written, each number exactly.
 //!
-//! Sizes are written exactly: of a heap for how mutators make objects (`heap`), of one that keeps a share at rates
-//! (`rate`), of a share of the mutator (`target`), and of a script (`script`). The numbers are those of `mh_sizing`,
-//! and what is seen of a run is that of `mh_seen`. Here they are written.
+//! `script` reads the script and writes its sizes, `sizes` makes them, and `lines` writes the lines.
 #![tactic(auto)]
 
-mod allocation;
-pub mod blocks;
-mod floors;
-pub mod heap;
+pub mod end;
 mod lines;
-pub mod rate;
+pub mod progress;
 pub mod script;
-mod seen;
-pub mod target;
-pub mod text;
+pub mod sizes;
+mod text;

@@ -1,225 +1,179 @@
-//! Lines that size a heap: each a word and a number, or `none`, `yes` or `no`. They are apart since the texts of
-//! heaps, shares and scripts have some in common.
-ghost use Rattle.std.specs.Prelude.{◌≡◌, ◌++◌, ◌∷◌, [], codes, OnOk};
+//! The lines of a script's sizes.
+ghost use Rattle.std.specs.Prelude.{◌≡◌, ◌≤◌, ◌++◌, ◌∷◌, [], OnOk, Some};
 ghost use Rattle.std.specs.String.{string_bytes};
 ghost use Rattle.mh_model.specs.Bytes.{lines_text};
-ghost use Rattle.mh_sizing.specs.Enough.{quantum_needed};
-ghost use Rattle.mh_size_text.specs.Texts.{answer_word, footprint_line, enough_line, found_lines, found_text, law_word, no_numbers, none_text, number_line, optional_line, own_text, profile_lines, search_text, startup_lines, startup_text};
+ghost use Rattle.mh_seen.specs.declared.rows.Outcome.TheVariants as Outcome;
+ghost use Rattle.mh_size_text.specs.Texts.{edge_line, heaps_text, is_short, is_short_in, live_line, nowhere_line, row_line, rows_text, script_line, session_count};
 
+use crate::sizes::{Heaps, Rows, Times, pages_in};
+use crate::text::{AnswerText, CyclesText, RoomText, SharesText};
+use mh_model::command::Event;
 use mh_model::config::Config;
-use mh_model::limits::MOST_PAGES;
 use mh_model::memory::NoMemory;
-use mh_model::needs::Needs;
-use mh_sizing::after::Startup;
-use mh_sizing::cycles::{cycle_quanta, cycle_units};
-use mh_sizing::enough::is_enough;
-use mh_sizing::found::{Found, Law};
-use mh_sizing::profile::Profile;
-use mh_sizing::quantum::quantum_needed;
+use mh_seen::edge::Edge;
+use mh_seen::live::Live;
+use mh_seen::rows::Outcome;
+use mh_seen::seen::Seen;
 use std::fmt::Write;
 
-fn answer_word(answer: bool) -> &'static str
-    ensures { result.now ≡ answer_word answer }
-{
-    if answer { "yes" } else { "no" }
-}
+/// With fewer cycles in the fewest pages a script is short.
+const FEW_CYCLES: u64 = 10;
 
-/// Adds what sessions ask of a heap. After an error the text may end with a part of it, as is the case for all that is added here.
-pub(crate) fn push_profile(text: &mut String, profile: &Profile) -> Result<(), NoMemory>
-    ensures { OnOk result (string_bytes text.new ≡ string_bytes text.old ++ lines_text (profile_lines profile.now)) }
+/// How many sessions these events have.
+pub(crate) fn session_count(events: &[Event]) -> u64
+    ensures { result ≡ session_count events.now }
 {
-    let Needs {
-        live,
-        marking_units,
-        asked,
-        opened,
-        page_units,
-    } = profile.needs;
-    let kinds = profile.kinds.kinds;
-    let slots = profile.kinds.fewest_slots;
-    let filled = profile.filled;
-    write!(
-        text,
-        "live {live}\nmarked {marking_units}\nasked {asked}\nopened {opened}\npage {page_units}\nkinds {kinds}\nslots {slots}\nfilled {filled}\n"
-    )?;
-    Ok(())
-}
-
-/// Adds a line with a number, or `none`.
-pub(crate) fn push_optional(
-    text: &mut String,
-    word: &str,
-    number: Option<u32>,
-) -> Result<(), NoMemory>
-    ensures { OnOk result (string_bytes text.new ≡ string_bytes text.old ++ lines_text (optional_line word.now number ∷ [])) }
-{
-    match number {
-        None => writeln!(text, "{word} none")?,
-        Some(number) => writeln!(text, "{word} {number}")?,
+    let mut count = 0;
+    for event in events {
+        if let Event::Session(who, _) = event {
+            count = (u64::from(*who) + 1).max(count);
+        }
     }
-    Ok(())
+    count
 }
 
-/// Adds the footprint.
-pub(crate) fn push_footprint(text: &mut String, profile: &Profile) -> Result<(), NoMemory>
-    ensures { OnOk result (string_bytes text.new ≡ string_bytes text.old ++ lines_text (footprint_line profile.now ∷ [])) }
-{
-    push_optional(text, "footprint", profile.footprint)
-}
-
-/// Adds the numbers of a startup, and what is needed after it.
-fn push_startup_lines(text: &mut String, startup: &Startup) -> Result<(), NoMemory>
-    ensures { OnOk result (string_bytes text.new ≡ string_bytes text.old ++ lines_text (startup_lines startup.now)) }
-{
-    let Startup {
-        pages,
-        anchored,
-        filled,
-        ..
-    } = *startup;
-    let Needs {
-        live,
-        asked,
-        opened,
-        ..
-    } = startup.needs;
-    write!(
-        text,
-        "startup {pages} {anchored}\nrest {live} {asked} {opened} {filled}\n"
-    )?;
-    Ok(())
-}
-
-/// Adds a startup if some first events are said to be one.
-pub(crate) fn push_startup(
-    text: &mut String,
-    first: Option<u32>,
-    profile: &Profile,
-) -> Result<(), NoMemory>
-    ensures { OnOk result (string_bytes text.new ≡ string_bytes text.old ++ startup_text first profile.now.startup) }
-{
-    match (first, profile.startup) {
-        (None, _) => Ok(()),
-        (Some(_), None) => push_optional(text, "startup", None),
-        (Some(_), Some(startup)) => push_startup_lines(text, &startup),
-    }
-}
-
-fn law_word(law: Law) -> &'static str
-    ensures { result.now ≡ law_word law }
-{
-    match law {
-        Law::Footprint => "footprint",
-        Law::Easy => "easy",
-        Law::Sharp => "sharp",
-        Law::Started => "startup",
-    }
-}
-
-/// Adds what a cycle of a heap takes, and its numbers.
-pub(crate) fn push_numbers(
+/// Adds what is run: so many events of so many sessions. After an error the text may end with a part of the line, as is the
+/// case for all that is added here.
+pub(crate) fn push_script(
     text: &mut String,
     config: &Config,
-    profile: &Profile,
+    events: usize,
+    sessions: u64,
+    live: &Live,
 ) -> Result<(), NoMemory>
-    ensures { OnOk result (string_bytes text.new ≡ string_bytes text.old ++ lines_text (found_lines profile.now config.now)) }
+    ensures { OnOk result (string_bytes text.new ≡ string_bytes text.old ++ lines_text (script_line config.now events sessions live.now ∷ [])) }
 {
-    let Config {
-        pages,
-        quantum,
+    let Live { units, objects, .. } = *live;
+    let quantum = config.quantum;
+    let every = config.every;
+    writeln!(
+        text,
+        "script events {events} units {units} objects {objects} sessions {sessions} quantum {quantum} every {every}"
+    )?;
+    Ok(())
+}
+
+/// Whether a script is short, if some pages suffice.
+pub(crate) fn is_short(heaps: &Heaps) -> Option<bool>
+    ensures { result ≡ is_short heaps.now }
+{
+    match heaps {
+        Heaps::Found(_, rows) => match rows.one {
+            Outcome::Fits { seen, .. } => Some(seen.cycles < FEW_CYCLES),
+            Outcome::Full(_) => None,
+        },
+        Heaps::Nowhere(_) => None,
+    }
+}
+
+/// Adds what is live by quarters.
+fn push_quarters(text: &mut String, quarters: [u64; 4], short: AnswerText) -> Result<(), NoMemory>
+    ensures { OnOk result (string_bytes text.new ≡ string_bytes text.old ++ lines_text (live_line (Some quarters) short.0 ∷ [])) }
+{
+    let [first, second, third, fourth] = quarters;
+    let most = first.max(second.max(third.max(fourth)));
+    writeln!(
+        text,
+        "live {most} quarters {first} {second} {third} {fourth} short {short}"
+    )?;
+    Ok(())
+}
+
+/// Adds what is live.
+pub(crate) fn push_live(
+    text: &mut String,
+    quarters: Option<[u64; 4]>,
+    short: Option<bool>,
+) -> Result<(), NoMemory>
+    ensures { OnOk result (string_bytes text.new ≡ string_bytes text.old ++ lines_text (live_line quarters short ∷ [])) }
+{
+    let short = AnswerText(short);
+    match quarters {
+        None => {
+            writeln!(text, "live none quarters none short {short}")?;
+            Ok(())
+        }
+        Some(quarters) => push_quarters(text, quarters, short),
+    }
+}
+
+/// Adds the fewest pages.
+fn push_edge(text: &mut String, edge: &Edge) -> Result<(), NoMemory>
+    ensures { OnOk result (string_bytes text.new ≡ string_bytes text.old ++ lines_text (edge_line edge.now ∷ [])) }
+{
+    let Edge { pages, trigger, .. } = *edge;
+    match edge.below {
+        None => writeln!(text, "fewest {pages} trigger {trigger}")?,
+        Some(event) => {
+            let below = pages - 1;
+            writeln!(
+                text,
+                "fewest {pages} trigger {trigger} below {below} full {event}"
+            )?;
+        }
+    }
+    Ok(())
+}
+
+/// Adds what is seen of a run in so many pages with a trigger.
+fn push_seen(text: &mut String, pages: u32, trigger: u32, seen: &Seen) -> Result<(), NoMemory>
+    ensures { OnOk result (string_bytes text.new ≡ string_bytes text.old ++ lines_text (row_line pages (Outcome.Fits trigger seen.now) ∷ [])) }
+{
+    let cycles = CyclesText {
         trigger,
-        ..
-    } = *config;
-    let units = cycle_units(config, &profile.needs);
-    let quanta = cycle_quanta(config, &profile.needs);
-    write!(
-        text,
-        "quantum {quantum}\nunits {units}\nquanta {quanta}\ntrigger {trigger}\npages {pages}\n"
-    )?;
+        seen: *seen,
+    };
+    let room = RoomText(*seen);
+    let shares = SharesText(seen.report);
+    writeln!(text, "pages {pages} {cycles} {room} {shares}")?;
     Ok(())
 }
 
-/// Adds a heap that was found.
-fn push_found(text: &mut String, found: &Found, profile: &Profile) -> Result<(), NoMemory>
-    ensures { OnOk result (string_bytes text.new ≡ string_bytes text.old ++ found_text profile.now found.now) }
+/// Adds the line of a run in so many pages.
+fn push_row(text: &mut String, pages: u32, outcome: &Outcome) -> Result<(), NoMemory>
+    ensures { OnOk result (string_bytes text.new ≡ string_bytes text.old ++ lines_text (row_line pages outcome.now ∷ [])) }
 {
-    push_numbers(text, &found.config, profile)?;
-    push_optional(text, "from", found.from)?;
-    let law = law_word(found.law);
-    writeln!(text, "law {law}")?;
-    Ok(())
-}
-
-/// Adds a line with the quantum.
-fn push_quantum(text: &mut String, quantum: u32) -> Result<(), NoMemory>
-    ensures { OnOk result (string_bytes text.new ≡ string_bytes text.old ++ lines_text (number_line (codes "quantum") quantum ∷ [])) }
-{
-    writeln!(text, "quantum {quantum}")?;
-    Ok(())
-}
-
-/// Adds that a heap has no numbers.
-fn push_no_numbers(text: &mut String) -> Result<(), NoMemory>
-    ensures { OnOk result (string_bytes text.new ≡ string_bytes text.old ++ no_numbers) }
-{
-    push_optional(text, "units", None)?;
-    push_optional(text, "quanta", None)?;
-    push_optional(text, "trigger", None)?;
-    push_optional(text, "pages", None)
-}
-
-/// Adds the least quantum with which the most pages are enough.
-fn push_quantum_enough(text: &mut String, profile: &Profile) -> Result<(), NoMemory>
-    ensures { OnOk result (string_bytes text.new ≡ string_bytes text.old ++ lines_text (optional_line (codes "quantum_enough") (quantum_needed profile.now 4096) ∷ [])) }
-{
-    push_optional(text, "quantum_enough", quantum_needed(MOST_PAGES, profile))
-}
-
-/// Adds that no pages are enough with a quantum, and what would do.
-fn push_none(text: &mut String, quantum: u32, profile: &Profile) -> Result<(), NoMemory>
-    ensures { OnOk result (string_bytes text.new ≡ string_bytes text.old ++ none_text profile.now quantum) }
-{
-    push_quantum(text, quantum)?;
-    push_no_numbers(text)?;
-    push_quantum_enough(text, profile)
-}
-
-/// Adds the heap that was found for a configuration's quantum, or that there is none.
-pub(crate) fn push_search(
-    text: &mut String,
-    config: &Config,
-    profile: &Profile,
-    found: &Option<Found>,
-) -> Result<(), NoMemory>
-    ensures { OnOk result (string_bytes text.new ≡ string_bytes text.old ++ search_text profile.now config.now found.now) }
-{
-    match found {
-        Some(found) => push_found(text, found, profile),
-        None => push_none(text, config.quantum, profile),
+    match outcome {
+        Outcome::Fits { trigger, seen } => push_seen(text, pages, *trigger, seen),
+        Outcome::Full(event) => {
+            writeln!(text, "pages {pages} full {event}")?;
+            Ok(())
+        }
     }
 }
 
-/// Adds whether a configuration is enough.
-pub(crate) fn push_enough_line(
-    text: &mut String,
-    config: &Config,
-    profile: &Profile,
-) -> Result<(), NoMemory>
-    ensures { OnOk result (string_bytes text.new ≡ string_bytes text.old ++ lines_text (enough_line profile.now config.now ∷ [])) }
+/// Adds the lines of the runs in so many times the fewest pages.
+fn push_rows(text: &mut String, fewest: u32, rows: &Rows) -> Result<(), NoMemory>
+    requires { (1 ≤ fewest) × (fewest ≤ 4096) }
+    ensures { OnOk result (string_bytes text.new ≡ string_bytes text.old ++ rows_text fewest rows.now) }
 {
-    let enough = answer_word(is_enough(config, profile));
-    writeln!(text, "enough {enough}")?;
-    Ok(())
+    push_row(text, pages_in(fewest, Times::One), &rows.one)?;
+    push_row(
+        text,
+        pages_in(fewest, Times::OneAndAQuarter),
+        &rows.one_and_a_quarter,
+    )?;
+    push_row(
+        text,
+        pages_in(fewest, Times::OneAndAHalf),
+        &rows.one_and_a_half,
+    )?;
+    push_row(text, pages_in(fewest, Times::Two), &rows.two)?;
+    push_row(text, pages_in(fewest, Times::Three), &rows.three)
 }
 
-/// Adds whether a configuration is enough, and the least quantum with which its pages are.
-pub(crate) fn push_own(
-    text: &mut String,
-    config: &Config,
-    profile: &Profile,
-) -> Result<(), NoMemory>
-    ensures { OnOk result (string_bytes text.new ≡ string_bytes text.old ++ own_text profile.now config.now) }
+/// Adds the fewest pages with the rows, or that there are none.
+pub(crate) fn push_heaps(text: &mut String, heaps: &Heaps) -> Result<(), NoMemory>
+    ensures { OnOk result (string_bytes text.new ≡ string_bytes text.old ++ heaps_text heaps.now) }
 {
-    push_enough_line(text, config, profile)?;
-    push_optional(text, "least", quantum_needed(config.pages, profile))
+    match heaps {
+        Heaps::Found(edge, rows) => {
+            push_edge(text, edge)?;
+            push_rows(text, edge.pages, rows)
+        }
+        Heaps::Nowhere(event) => {
+            writeln!(text, "fewest none full {event}")?;
+            Ok(())
+        }
+    }
 }

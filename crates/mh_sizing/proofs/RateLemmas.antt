@@ -1,54 +1,61 @@
--- What sessions ask of a heap that keep to rates: its intervals are windows of so few units.
-use Rattle.std.proofs.Common.{◌≡◌, ℕ, ◌+◌, ◌-◌, ◌*◌, ◌==◌, ◌≤◌, max, Bool, true, false, if◌then◌else◌, List, [], ◌∷◌, length, arith}
-use Rattle.std.proofs.Math.Nat.{mul-le-mul_right}
-use Rattle.std.proofs.lemmas.List.Sums.{sum_by-cons}
-use Rattle.mh_model.specs.declared.command.Event.{Event}
-use Rattle.mh_model.specs.declared.config.Config.{Config}
-use Rattle.mh_model.specs.declared.config.Rules.TheVariants.{Second}
-use Rattle.mh_model.specs.Openings.{class_parts}
-use Rattle.mh_sizing_laws.proofs.needs.Windows.{by-windows}
-use Rattle.mh_sizing_laws.proofs.openings.MadeParts.{more-pages}
-use Rattle.mh_sizing.specs.declared.openings.ClassParts.{ClassParts}
-use Rattle.mh_sizing.specs.declared.rate.ClassRate.{ClassRate}
-use Rattle.mh_sizing.specs.Counted.{parts_in}
-use Rattle.mh_sizing.specs.Openings.{parts_of_counts}
-use Rattle.mh_sizing.specs.Rates.{KeepToRates, count_at, counts_at, parts_at, profile_at_rates}
-use Rattle.mh_sizing.specs.Sized.{KeepToProfile}
-use Rattle.mh_sizing.proofs.CountedLemmas.{count_in, counts-keep, in-cons}
+-- What rates allow grows with the units, and the pages of intervals in a row are the sum over the classes.
+use Rattle.std.proofs.Common.{◌≡◌, ℕ, ◌+◌, ◌*◌, ◌<◌, ◌≤◌, min, List, take, length, get_or, subst, inl, inr, arith}
+use Rattle.std.specs.Int.{div_ceil}
+use Rattle.std.specs.List.{All, sum_by}
+use Rattle.std.proofs.lemmas.Bool.{cases_lt}
+use Rattle.std.proofs.lemmas.Grind.{div_ceil_times}
+use Rattle.std.proofs.lemmas.List.{get_or_past}
+use Rattle.std.proofs.lemmas.List.Sums.{sum_by_more}
+use Rattle.std.proofs.lemmas.Nat.{mul-le}
+use Rattle.mh_model.specs.Classes.{class_sizes}
+use Rattle.mh_classes.specs.Numbers.{class_number}
+use Rattle.mh_orders.specs.declared.rates.Rates.{Rates}
+use Rattle.mh_room_laws.specs.Rates.{Grows}
+use Rattle.mh_sizing.specs.Rates.{allowed_by}
 
--- more units make as many parts or more
-more-parts : (rate : ClassRate) (units more : ℕ) → units ≤ more → parts_at rate units ≤ parts_at rate more
-more-parts rate units more larger =
-    let product : units * rate.parts ≤ more * rate.parts = mul-le-mul_right rate.parts larger in
-    omega (arith, larger, more-pages (max 1 rate.units) (units * rate.parts) (more * rate.parts) (omega arith) product)
+-- a quotient rounded up is no more than the number
+pub ceil_few : (x s : ℕ) → 1 ≤ s → div_ceil x s ≤ x
+ceil_few x s some = elim (cases_lt x (div_ceil x s)) [
+  | inl more ↦
+      let far : (x + 1) * s ≤ div_ceil x s * s = mul-le (x + 1) s (div_ceil x s) s (omega (arith, more)) (omega arith) in
+      let wide : x * 1 ≤ x * s = mul-le x 1 x s (omega arith) some in
+      absurd (omega (arith, far, wide, (div_ceil_times x s some).1))
+  | inr less ↦ less
+]
 
-more-counted : (size : ℕ) (rate : ClassRate) (units more : ℕ) → units ≤ more → count_in size (count_at units rate) ≤ count_in size (count_at more rate)
-more-counted size rate units more larger = go (rate.class == size)
-  where
-    go : (same : Bool) → (if same then parts_at rate units else 0) ≤ (if same then parts_at rate more else 0)
-    go true = more-parts rate units more larger
-    go false = omega arith
+-- and grows with it
+pub ceil_grows : (x y s : ℕ) → 1 ≤ s → x ≤ y → div_ceil x s ≤ div_ceil y s
+ceil_grows x y s some more = elim (cases_lt (div_ceil y s) (div_ceil x s)) [
+  | inl past ↦
+      let far : (div_ceil y s + 1) * s ≤ div_ceil x s * s = mul-le (div_ceil y s + 1) s (div_ceil x s) s (omega (arith, past)) (omega arith) in
+      absurd (omega (arith, far, more, (div_ceil_times x s some).1, (div_ceil_times y s some).0))
+  | inr less ↦ less
+]
 
-more-in : (size : ℕ) (rates : List ClassRate) (units more : ℕ) → units ≤ more → parts_in size (counts_at rates units) ≤ parts_in size (counts_at rates more)
-more-in size [] units more larger = omega arith
-more-in size (rate ∷ rates) units more larger =
-    omega (arith, in-cons size (count_at units rate) (counts_at rates units), in-cons size (count_at more rate) (counts_at rates more), more-counted size rate units more larger, more-in size rates units more larger)
+-- Sums over the classes --------------------------------------------------------------------------
 
--- so many units make no more parts of each rate
-pub rates-few : (rates : List ClassRate) (units : ℕ) → parts_of_counts (counts_at rates units) ≤ length rates * units
-rates-few [] units = omega arith
-rates-few (rate ∷ rates) units =
-    let first : parts_at rate units ≤ units = omega arith in
-    omega (arith, first, sum_by-cons (λ (count : ClassParts). count.parts) (count_at units rate) (counts_at rates units), rates-few rates units)
+pub sum_more : (f : ℕ → ℕ) (number : ℕ) → number < 20 → sum_by f (take (number + 1) class_sizes) ≡ sum_by f (take number class_sizes) + f (get_or class_sizes number 0)
+sum_more f number within = sum_by_more f class_sizes number 0 within
 
--- Rates are counts, and so needs
-pub rates-keep : (rates : List ClassRate) (most live references : ℕ) (config : Config) (events : List Event) → config.rules ≡ Second → 1 ≤ config.every → KeepToRates rates most live references config events
-    → KeepToProfile (profile_at_rates rates most live references config.every) config events
-rates-keep rates most live references config events second some keep =
-    let units : ℕ = config.every - 1 + max 1 most in
-    counts-keep (counts_at rates units) live references config events (record {
-      held = keep.held;
-      marked = keep.marked;
-      made = by-windows config second some most events (λ interval. (size : ℕ) → class_parts size interval ≤ parts_in size (counts_at rates units))
-          (λ before window later split few size. omega (arith, keep.made before window later split size, more-in size rates _ units few)) keep.objects;
-    })
+pub sum_all : (f : ℕ → ℕ) (number sum : ℕ) → number ≡ 20 → sum ≡ sum_by f (take number class_sizes) → sum ≡ sum_by f class_sizes
+sum_all f number sum last is = subst (λ (n : ℕ). sum ≡ sum_by f (take n class_sizes)) last is
+
+-- Rates ------------------------------------------------------------------------------------------
+
+-- with more units
+allowed_more : (burst parts units less more : ℕ) → 1 ≤ units → less ≤ more → min less (burst + div_ceil (less * parts) units) ≤ min more (burst + div_ceil (more * parts) units)
+allowed_more burst parts units less more some longer =
+    let made : less * parts ≤ more * parts = mul-le less parts more parts longer (omega arith) in
+    omega (arith, ceil_grows (less * parts) (more * parts) units some made)
+
+some_at : (units : List ℕ) (class : ℕ) → All (λ unit. 1 ≤ unit) units → 1 ≤ get_or units class 1
+some_at units class some = elim (cases_lt class (length units)) [
+  | inl inside ↦ some class 1 inside
+  | inr outside ↦ omega (arith, get_or_past units class 1 outside)
+]
+
+pub rates_grow : (rates : Rates) → Grows (allowed_by rates)
+unfolding allowed_by
+rates_grow rates size less more longer =
+    let class = class_number size in
+    allowed_more (get_or rates.bursts class 0) (get_or rates.parts class 0) (get_or rates.units class 1) less more (some_at rates.units class rates.some_units) longer

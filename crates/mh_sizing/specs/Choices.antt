@@ -1,11 +1,6 @@
--- The least or the greatest number that passes a test, and of a configuration that has a property.
-use Rattle.std.specs.Prelude.{◌≡◌, ℕ, zero, suc, ◌≤◌, Bool, if◌then◌else◌, Option, Some, None}
+-- The least or the greatest number of a configuration that has a property.
+use Rattle.std.specs.Prelude.{◌≡◌, ℕ, ◌≤◌}
 use Rattle.mh_model.specs.declared.config.Config.{Config}
-
--- the least number that passes a test, of so many from one on
-unfoldable pub least_from : (ℕ → Bool) → ℕ → ℕ → Option ℕ
-least_from test first zero = None
-least_from test first (suc count) = if test first then Some first else least_from test (suc first) count
 
 -- no configuration has a property
 abbrev pub HasNone : (Config → Type 0) → Type 0

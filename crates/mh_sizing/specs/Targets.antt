@@ -1,12 +1,13 @@
--- The share that the mutator is to have of each stretch of a length.
+-- The share that the mutator is to have of each stretch of a length or longer.
 use Rattle.std.specs.Prelude.{◌≡◌, ℕ, ◌*◌, ◌≤◌}
 use Rattle.mh_model.specs.declared.config.Config.{Config}
 use Rattle.mh_model.specs.Trace.{floor}
 use Rattle.mh_orders.specs.declared.target_options.Target.{Target}
 
--- a quantum of at most so many units after so many of the mutator leaves it the share of a target: the floor of its window is at least that share
-abbrev pub IsMetBy : Target → ℕ → ℕ → Type 0
-IsMetBy target every quantum = target.percent * target.window ≤ 100 * floor every quantum target.window
+-- A quantum of at most so many units after so many of the mutator leaves it the share of a target: in each window of its length or longer the floor is at
+-- least that share
+pub record IsMetBy (target : Target) (every quantum : ℕ) : Type 0 where
+  pub each : (window : ℕ) → target.window ≤ window → target.percent * window ≤ 100 * floor every quantum window
 
 -- A configuration has quanta run by the scheduler after so many units of the mutator, and meets a target
 pub record MeetsAfter (target : Target) (every : ℕ) (config : Config) : Type 0 where

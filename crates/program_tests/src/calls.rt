@@ -2,7 +2,7 @@
 use crate::cases::AUDIT;
 use crate::comparing::Comparing;
 use crate::live_answers::{are_right, has_starved, refused_in};
-use crate::program::{Errors, launch, line_order, serve, words};
+use crate::program::{Errors, Silent, launch, line_order, serve, words};
 use mh_text::sink::StdSink;
 use mh_text::source::StdSource;
 use std::alloc::{AllocError, Global};
@@ -104,6 +104,7 @@ fn serve_with<R: Threads + Wait + Sync, W: Write + Drop>(
         &mut sink,
         &mut errors,
         &Eager,
+        &mut Silent,
     );
     is_left?;
     Ok(status)

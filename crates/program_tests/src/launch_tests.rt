@@ -1,6 +1,8 @@
-//! The threads of the program as it is launched, which no hook watches.
+//! The threads of the program as it is launched, which no hook watches, and what a terminal hears of a sizing.
 use crate::graph::wide_script;
 use crate::program::launch;
+use mh_program::progress::Telling;
+use mh_size_text::progress::{Progress, Step};
 use std::alloc::Global;
 use std::rt::Files;
 use std::sync::Wait;
@@ -68,5 +70,25 @@ fn a_wide_front_starts_a_thread(rt: HostRuntime) -> Result<(), Fail> {
     let script = wide_script(rt.alloc())?;
     let seen = seen_of(&rt, rt.alloc(), &script)?;
     assert_eq!(rt; seen, (0, true));
+    Ok(())
+}
+
+/// What standard error has of three steps of a sizing.
+fn heard(alloc: Global, is_terminal: bool) -> Vec<u8> {
+    let mut heard = Vec::new(alloc);
+    let mut telling = Telling::new(&mut heard, is_terminal);
+    for step in [Step::Live, Step::Fewest, Step::Row(82)] {
+        telling.begins(step);
+    }
+    heard
+}
+
+#[test]
+fn only_a_terminal_hears_how_far_a_sizing_has_come(rt: HostRuntime) -> Result<(), Fail> {
+    let alloc = rt.alloc();
+    assert_eq!(rt; heard(alloc, false).len(), 0);
+    let told = heard(alloc, true);
+    let lines = told.split(|byte| *byte == b'\n').count();
+    assert_eq!(rt; (lines, told.ends_with(b" 82\n")), (4, true));
     Ok(())
 }

@@ -7,6 +7,7 @@ pub use mh_program::launch::launch;
 pub use mh_program::program::{program, serve};
 pub use mh_program::prompt::Prompting;
 use mh_scan::crew_scan::CrewGate;
+pub use mh_size_text::progress::Silent;
 use mh_text::sink::StdSink;
 use mh_text::source::StdSource;
 use std::alloc::Global;
@@ -34,7 +35,17 @@ pub fn printed<R: Threads + Wait + Sync, G: CrewGate + Sync>(
     let mut source = StdSource::new(script);
     let mut sink = StdSink::new(Vec::new(alloc));
     let mut errors = Errors::new(alloc, StdSink::new(Vec::new(alloc)));
-    if program(rt, alloc, words, &mut source, &mut sink, &mut errors, gate) != 0 {
+    let status = program(
+        rt,
+        alloc,
+        words,
+        &mut source,
+        &mut sink,
+        &mut errors,
+        gate,
+        &mut Silent,
+    );
+    if status != 0 {
         return Err(Fail::from("another status"));
     }
     Ok(sink.writer)

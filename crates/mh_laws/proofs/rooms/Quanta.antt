@@ -1,5 +1,5 @@
 -- What a quantum does: it takes no free page, and starts no cycle, ends one, or counts one more.
-use Rattle.std.proofs.Common.{◌≡◌, ◌⊎◌, inl, inr, ℕ, zero, suc, ◌+◌, ◌-◌, ◌==◌, ◌<◌, ◌≤◌, nat_le, nat_lt, Bool, true, false, ◌||◌, ◌&&◌, if◌then◌else◌, Option, Some, None, option_map, option_and_then, [], ◌∷◌, set, get_or, refl, sym, ap, ◌∙◌, subst, arith}
+use Rattle.std.proofs.Common.{◌≡◌, ◌⊎◌, inl, inr, ℕ, zero, suc, ◌+◌, ◌-◌, ◌<◌, ◌≤◌, nat_le, nat_lt, Bool, true, false, ◌||◌, ◌&&◌, Option, Some, None, option_map, option_and_then, [], ◌∷◌, set, get_or, refl, sym, ap, ◌∙◌, subst, arith}
 use Rattle.std.proofs.lemmas.Bool.{cases_Bool, or_parts, leb-false, true≢false}
 use Rattle.std.proofs.lemmas.List.{set-get_or}
 use Rattle.mh_model.specs.declared.config.Config.{Config}
@@ -7,14 +7,12 @@ use Rattle.mh_model.specs.declared.cycle.Phase.{Phase}
 use Rattle.mh_model.specs.declared.cycle.Phase.TheVariants.{Idle, Roots, Mark, Sweep, Defrag}
 use Rattle.mh_model.specs.Pages.{Page, Table, page_number, slot_number, page_at, free_pages, page_with, with_block, with_taken, HaveTheirSlots}
 use Rattle.mh_model.specs.Table.{Block}
-use Rattle.mh_model.specs.Collector.{Collector, marking_of, swept_page, swept_table, Move, next_move, with_move, with_phase, after_mark, is_past, cycle_end, step_in, phase_after, collector_step, step_cost, is_moving, is_idle, cycle_start, steps, quantum}
+use Rattle.mh_model.specs.Collector.{Collector, marking_of, swept_page, swept_table, Move, next_move, with_move, step_in, phase_after, collector_step, step_cost, is_moving, is_idle, cycle_start, steps, quantum}
 use Rattle.mh_model.specs.CycleBounds.{IsInBounds}
-use Rattle.mh_model.specs.Limits.{root_slots}
 use Rattle.mh_table_laws.proofs.Lists.{below_length}
-use Rattle.mh_table_laws.proofs.marking.StandingStill.{after_mark-table}
 use Rattle.mh_table_laws.proofs.placing.Places.{shaped-slots, least_dense_place-page}
 use Rattle.mh_laws.proofs.bounds.CycleBounds.{steps-count}
-use Rattle.mh_laws.proofs.commands.LeftUnchanged.{collector_step-keeps}
+use Rattle.mh_laws.proofs.commands.LeftUnchanged.{collector_step-keeps, table-phase_after}
 use Rattle.mh_laws.proofs.costs.Quanta.{steps-stop, steps-go}
 use Rattle.mh_laws.proofs.costs.QuantumStarts.{begins, quantum-rests}
 use Rattle.mh_laws.proofs.moving.NextMove.{next_move-is}
@@ -58,18 +56,6 @@ free-step_in Roots collector slots = omega (arith, (with_shade-room collector (g
 free-step_in Mark collector slots = omega (arith, (mark_first-room (marking_of collector) collector.grey).free)
 free-step_in Sweep collector slots = free-swept collector.cycle collector.table collector.cursor
 free-step_in Defrag collector slots = omega (arith, free-move collector slots (next_move collector.table collector.cursor) refl)
-
--- what follows a step leaves the table
-table-if : (test : Bool) (collector other : Collector) → other.table ≡ collector.table → (if test then other else collector).table ≡ collector.table
-table-if true collector other e = e
-table-if false collector other e = refl
-
-pub table-phase_after : (phase : Phase) (collector : Collector) → (phase_after phase collector).table ≡ collector.table
-table-phase_after Idle collector = refl
-table-phase_after Roots collector = table-if (collector.cursor == root_slots) collector (after_mark collector collector.grey) (after_mark-table collector collector.grey)
-table-phase_after Mark collector = after_mark-table collector collector.grey
-table-phase_after Sweep collector = table-if (is_past collector.table collector.cursor) collector (with_phase collector Defrag 0) refl
-table-phase_after Defrag collector = table-if (is_past collector.table collector.cursor) collector (cycle_end collector) refl
 
 free-step : (collector : Collector) → HaveTheirSlots collector.table → free_pages collector.table ≤ free_pages (collector_step collector).table
 unfolding collector_step

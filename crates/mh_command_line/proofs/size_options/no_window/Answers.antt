@@ -10,4 +10,4 @@ returns-in-None-clause-none c = not_given (found_of c.args.matches.now) (codes "
 pub returns-in-Some-clause-fault : goal.returns-in-Some-clause-fault
 returns-in-Some-clause-fault c =
     let given = is_given (found_of c.args.matches.now) (codes "window") c.in-Some.field-0.now (sym c.in-Some.ensures) in
-    (refl, ForWindow refl (some_is _ given.0 given.1), c.requires)
+    (refl, ForWindow refl (some_is _ given.0 given.1) c.requires.heap, c.requires.target)

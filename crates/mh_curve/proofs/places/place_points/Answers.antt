@@ -5,7 +5,7 @@ use Rattle.mh_curve.proofs.places.place_points.Goals as goal
 
 pub loop-window-preserved : goal.loop-window-preserved
 loop-window-preserved c =
-    rw c.next_window_rounded_down-window.ensures
+    rw c.next_window-window.ensures
     (places_more c.args.trace.now.trace.letters _ _ _ _ _ _ c.loop-window.invariant (omega (arith, c.loop-window-test.true, c.letter_count-letters.ensures)) c.in_ok-add.ensures)
 
 pub returns-clause-placed : goal.returns-clause-placed

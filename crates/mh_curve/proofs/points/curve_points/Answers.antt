@@ -14,14 +14,14 @@ returns-then-letters-eq0-clause-points c =
 pub loop-window-init : goal.loop-window-init
 loop-window-init c = record { points = rw c.new-points.ensures.items (points_none _ _); trace = refl }
 
-pub next_window_rounded_down-window-requires : goal.next_window_rounded_down-window-requires
-next_window_rounded_down-window-requires c = omega (arith, c.letter_count-letters.ensures)
+pub next_window-window-requires : goal.next_window-window-requires
+next_window-window-requires c = omega (arith, c.letter_count-letters.ensures)
 
 pub loop-window-preserved : goal.loop-window-preserved
 loop-window-preserved c =
     let same = c.point_at.ensures.point ∙ ap (λ (t : TraceState). point_at c.args.config.now t.letters c.loop-window.window) c.loop-window.invariant.trace in
     record {
-      points = rw c.next_window_rounded_down-window.ensures
+      points = rw c.next_window-window.ensures
           (points_more _ _ _ _ _ _ c.loop-window.invariant.points c.loop-window-test.true (c.in_ok-push.ensures.items ∙ ap (λ (p : Point). c.loop-window.points.items ++ p ∷ []) same));
       trace = ap (λ (k : KeptTrace). k.trace) c.point_at.ensures.kept ∙ c.loop-window.invariant.trace;
     }

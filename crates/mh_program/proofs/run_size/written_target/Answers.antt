@@ -1,7 +1,6 @@
-use Rattle.std.specs.String.{string_bytes}
-use Rattle.mh_size_text.specs.Targets.{IsTargetText}
+use Rattle.mh_sizing.specs.Texts.{IsTargetText}
 use Rattle.mh_program.proofs.SizeLemmas.{written-is}
 use Rattle.mh_program.proofs.run_size.written_target.Goals as goal
 
 pub returns : goal.returns
-returns g c = written-is string_bytes (IsTargetText c.args.options.now) c.target_text.result _ _ c.written.result c.target_text.ensures c.written.ensures.made c.written.ensures.none
+returns g c = written-is (IsTargetText c.args.options.now) c.target_text.result _ _ c.written.result c.target_text.ensures c.written.ensures.made c.written.ensures.none

@@ -1,24 +1,27 @@
-use Rattle.std.proofs.Common.{sym, ap, ◌∙◌}
+use Rattle.std.proofs.Common.{sym, ap, ◌∙◌, subst}
 use Rattle.std.specs.Prelude.{Err}
 use Rattle.mh_model.specs.Script.{BadLine}
 use Rattle.mh_script.proofs.SourceLemmas.{few_entries, many_entries, reads_slice, refused_reason, script_bounded, wants_script}
-use Rattle.mh_size_text.proofs.SizingLemmas.{begins_bad, begins_reads, sizes_bad, sizes_few, sizes_many}
+use Rattle.mh_size_text.specs.Scripts.{SizesTo, ended_with}
+use Rattle.mh_size_text.proofs.SizingLemmas.{begins_bad, begins_reads, sizes_bad, sizes_many, sizes_to}
 use Rattle.mh_size_text.proofs.script.size_script.Goals as goal
 
 pub returns-in-Ok-write_size-clause-full : goal.returns-in-Ok-write_size-clause-full
 returns-in-Ok-write_size-clause-full g c = λ is.
     let reads = reads_slice _ _ script_bounded _ _ _ _ c.as_slice-bytes.ensures.value c.in_ok-text.ensures.read c.in_ok-text.ensures.whole in
-    sizes_many c.args.options.now reads _ _ _ c.in-Ok.ensures.script c.in-Ok-write_size.ensures.done (many_entries _ c.events.result.now c.events.ensures c.if-events-gt-MOST_ANSWERED.true)
+    (_, sizes_many c.args.options.now reads _ _ _ _ c.in-Ok.ensures.script c.in-Ok-write_size.ensures.done (many_entries _ c.events.result.now c.events.ensures c.if-events-gt-MOST_ANSWERED.true))
 
 pub returns-in-Ok-2-clause-ends : goal.returns-in-Ok-2-clause-ends
 returns-in-Ok-2-clause-ends g c =
     let reads = reads_slice _ _ script_bounded _ _ _ _ c.as_slice-bytes.ensures.value c.in_ok-text.ensures.read c.in_ok-text.ensures.whole in
-    sizes_few c.args.options.now reads _ _ _ c.in-Ok.ensures.script c.in-Ok-2.ensures.done (few_entries _ c.events.result.now c.events.ensures c.if-events-gt-MOST_ANSWERED.false)
+    subst (SizesTo c.args.options.now _ _ _) (sym (c.ended.ensures ∙ ap ended_with c.in-Ok-2.is_found-is))
+    (sizes_to c.args.options.now reads _ _ _ _ c.in-Ok.ensures.script c.in-Ok-2.ensures.done (few_entries _ c.events.result.now c.events.ensures c.if-events-gt-MOST_ANSWERED.false))
 
 pub returns-in-Err-Device-clause-begun : goal.returns-in-Err-Device-clause-begun
 returns-in-Err-Device-clause-begun g c = λ is.
     let reads = reads_slice _ _ script_bounded _ _ _ _ c.as_slice-bytes.ensures.value c.in_ok-text.ensures.read c.in_ok-text.ensures.whole in
-    begins_reads c.args.options.now reads _ _ _ c.in-Ok.ensures.script (c.in-Err-Device.ensures.begun (ap Err c.in-Err-Device.field-0-is))
+    let (found, wrote) = c.in-Err-Device.ensures.begun (ap Err c.in-Err-Device.field-0-is) in
+    begins_reads c.args.options.now reads _ _ found _ c.in-Ok.ensures.script wrote
 
 pub returns-in-Ok-clause-memory : goal.returns-in-Ok-clause-memory
 returns-in-Ok-clause-memory g c =

@@ -1,0 +1,10 @@
+pub mod IntervalSteps
+pub mod Rows
+pub mod Runs
+pub mod FirstCycles
+pub mod Moments
+pub mod RowPages
+pub mod Stretches
+pub mod RatedRuns
+pub mod Commands
+pub mod FoundPlaces

@@ -1,0 +1,5 @@
+pub mod Openings
+pub mod Worlds
+pub mod Room
+pub mod Rates
+pub mod Rooms

@@ -1,0 +1,2 @@
+pub mod RoomInARow
+pub mod RoomAtARate

@@ -1,4 +1,0 @@
-pub mod Outline
-pub mod OutlineSteps
-pub mod OutlinedWorld
-pub mod ShadowHeap

@@ -1,4 +1,0 @@
-use Rattle.mh_size_text.proofs.rate.heap.Goals as goal
-
-pub returns : goal.returns
-returns c = rw (c.rates_of.ensures, c.references.ensures.value) at c.find_at_rates.ensures

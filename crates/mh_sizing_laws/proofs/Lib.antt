@@ -1,4 +1,0 @@
-pub mod Sums
-pub mod Weighing
-pub mod Births
-pub mod ClassWeights

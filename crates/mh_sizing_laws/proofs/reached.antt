@@ -1,6 +1,0 @@
-pub mod Counting
-pub mod HeldBlocks
-pub mod MarkedUnits
-pub mod ReachedSteps
-pub mod ReachedQuanta
-pub mod ReachedRuns

@@ -1,3 +1,0 @@
-pub mod FewerPages
-pub mod FewPages
-pub mod SharpNeededRuns

@@ -1,4 +1,0 @@
-pub mod FoundPlaces
-pub mod Commands
-pub mod SizedRuns
-pub mod WorldReplies
