@@ -1,9 +1,9 @@
 -- The limits of a heap that has some numbers of another.
-use Rattle.std.proofs.Common.{◌≡◌, ℕ, ◌≤◌, nat_le, true, arith}
+use Rattle.std.proofs.Common.{◌≡◌, ℕ, ◌≤◌, ◌/◌, max, nat_le, true, arith}
 use Rattle.std.proofs.lemmas.Bool.{and_parts, leb-true}
 use Rattle.std.proofs.lemmas.Bool.Decides.{nat_tests}
 use Rattle.mh_model.specs.declared.config.Config.{Config}
-use Rattle.mh_model.specs.Limits.{is_configuration, least_quantum}
+use Rattle.mh_model.specs.Limits.{is_configuration, least_quantum, most_entries}
 
 pub record IsWithin (config : Config) : Type 0 where
   pub least : least_quantum ≤ config.quantum
@@ -25,6 +25,10 @@ limits pages quantum trigger every a b c d e f = grind (arith, nat_tests)
 pub heap-limits : (config : Config) (pages trigger : ℕ) → 1 ≤ pages → pages ≤ 4096 → trigger ≤ pages → is_configuration pages config.quantum trigger config.every ≡ true
 heap-limits config pages trigger some few less = let limit = within config in limits pages config.quantum trigger config.every some few limit.least limit.most less limit.every
 
+apart : (every count : ℕ) → every ≤ 1000000 → count ≤ 1000000 → max every (count / 1000) ≤ 1000000
+apart every count a b = omega arith
+
 -- the widest heap
-pub widest-limits : (config : Config) → is_configuration 4096 1000000 4096 config.every ≡ true
-widest-limits config = limits 4096 1000000 4096 config.every (omega arith) (omega arith) (omega arith) (omega arith) (omega arith) (within config).every
+pub widest-limits : (config : Config) (count : ℕ) → count ≤ most_entries → is_configuration 4096 1000000 4096 (max config.every (count / 1000)) ≡ true
+unfolding most_entries
+widest-limits config count few = limits 4096 1000000 4096 (max config.every (count / 1000)) (omega arith) (omega arith) (omega arith) (omega arith) (omega arith) (apart config.every count (within config).every few)

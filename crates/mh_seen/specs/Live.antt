@@ -1,5 +1,5 @@
 -- What is live in a run: what whole cycles leave, one at each quantum.
-use Rattle.std.specs.Prelude.{◌≡◌, ℕ, ◌+◌, ◌-◌, ◌*◌, ◌/◌, true, Option, None, Some, IsSomeAnd, length, drop, take, map, List, [], ◌∷◌}
+use Rattle.std.specs.Prelude.{◌≡◌, ℕ, ◌+◌, ◌-◌, ◌*◌, ◌/◌, true, Option, None, Some, IsSomeAnd, length, max, drop, take, map, List, [], ◌∷◌}
 use Rattle.mh_model.specs.declared.command.Event.{Event}
 use Rattle.mh_model.specs.declared.config.Config.{Config}
 use Rattle.mh_model.specs.Collector.{is_idle}
@@ -10,9 +10,10 @@ use Rattle.mh_model.specs.Trace.{mutator_count}
 use Rattle.mh_seen.specs.declared.live.Live.{Live}
 use Rattle.mh_seen.specs.Seen.{greatest}
 
--- the heap in which a cycle starts at each quantum and has the most units: the most pages, and as great a trigger
-abbrev pub widest : Config → Option Config
-widest config = configured_under config.rules 4096 1000000 4096 config.every
+-- the heap in which a cycle starts at each quantum and has the most units: the most pages, and as great a trigger. Of a long
+-- run a thousand quanta are enough.
+abbrev pub widest : Config → ℕ → Option Config
+widest config count = configured_under config.rules 4096 1000000 4096 (max config.every (count / 1000))
 
 -- how many blocks of a machine aren't forwarders
 abbrev pub live_blocks : Machine → ℕ
@@ -55,4 +56,4 @@ pub record IsSeenLive (heap : Config) (events : List Event) (live : Live) : Type
   pub objects : live.objects ≡ (machine_after (first_machine heap) events).heap.next_birth
 
 abbrev pub IsLive : Config → List Event → Live → Type 0
-IsLive config events live = IsSomeAnd (widest config) (λ heap. IsSeenLive heap events live)
+IsLive config events live = IsSomeAnd (widest config (length events)) (λ heap. IsSeenLive heap events live)

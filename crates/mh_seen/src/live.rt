@@ -1,6 +1,7 @@
 //! What is live in a run, by its quarters, so that a leak shows. The run has the most pages and a cycle at each quantum,
-//! with as many units as a quantum has at most. What is there after such a cycle is what was live as it started.
-ghost use Rattle.std.specs.Prelude.{◌≡◌, ◌↔◌, ◌<◌, ◌+◌, ◌≤◌, ◌&&◌, if◌then◌else◌, length, max, ◌∷◌, [], IfOk, IsTrue, OnOk, None, Some};
+//! with as many units as a quantum has at most. What is there after such a cycle is what was live as it started. A long
+//! run has a thousand such quanta and no more, since each looks at all that is live.
+ghost use Rattle.std.specs.Prelude.{◌≡◌, ◌↔◌, ◌<◌, ◌+◌, ◌/◌, ◌≤◌, ◌&&◌, if◌then◌else◌, length, max, ◌∷◌, [], IfOk, IsTrue, OnOk, None, Some};
 ghost use Rattle.mh_model.specs.Limits.{most_entries};
 ghost use Rattle.mh_model.specs.Machine.{machine_after};
 ghost use Rattle.mh_seen.specs.Samples.{ended_between};
@@ -53,15 +54,28 @@ impl Quarter {
     }
 }
 
+/// The most quanta in which what is live is looked for, if EVERY asks for more.
+const MOST_SAMPLES: usize = 1000;
+
+/// The mutator's units between two quanta of a run of so many events.
+fn between(config: &Config, count: usize) -> u32
+    requires { count ≤ most_entries }
+    ensures { result ≡ max config.now.every (count / 1000) }
+{
+    let share = (count / MOST_SAMPLES) as u32;
+    config.every.max(share)
+}
+
 /// The heap in which each quantum has a whole cycle.
-fn widest(config: &Config) -> Config
-    ensures { widest config.now ≡ Some result }
+fn widest(config: &Config, count: usize) -> Config
+    requires { count ≤ most_entries }
+    ensures { widest config.now count ≡ Some result }
 {
     Config {
         pages: MOST_PAGES,
         quantum: MOST_QUANTUM,
         trigger: MOST_PAGES,
-        every: config.every,
+        every: between(config, count),
         rules: config.rules,
     }
 }
@@ -151,7 +165,7 @@ pub fn live_of<S: Scanner>(
     requires { length events.now ≤ most_entries }
     ensures { IfOk result (IsLive config.now events.now) }
 {
-    let mut machine = Machine::open(alloc, widest(config))?;
+    let mut machine = Machine::open(alloc, widest(config, events.len()))?;
     let quarters = quarters(&mut machine, events, scanner)?;
     Ok(Live {
         quarters,
