@@ -1,9 +1,9 @@
-# Completions of metroheap for bash.
+# Completions of metroheap for bash. scripts/options makes them of the table of options.
 _metroheap() {
     local word=${COMP_WORDS[COMP_CWORD]} options=
     case ${COMP_WORDS[COMP_CWORD - 1]} in
-        # A number follows.
-        --workers | --pages | --quantum | --trigger | --every | --seed | --events | --from | --to | --used | --rate | --parts | --quanta | --target | --window | --controls | --longest | --keeps) return ;;
+        # A number or a text follows.
+        --workers | --from | --to | --pages | --quantum | --trigger | --every | --seed | --events | --controls | --longest | --keeps | --window | --used | --rate | --parts | --quanta | --target) return ;;
         --rules)
             mapfile -t COMPREPLY < <(compgen -W '1 2' -- "$word")
             return
@@ -13,6 +13,8 @@ _metroheap() {
             return
             ;;
     esac
+    # Here a number follows, as it doesn't after the `--sessions` of another.
+    [[ ${COMP_WORDS[1]} == generate && ${COMP_WORDS[COMP_CWORD - 1]} == --sessions ]] && return
     case ${COMP_WORDS[1]} in
         run) options='--workers --rules --history --help' ;;
         steps) options='--from --to --json --chrome --rules --help' ;;
@@ -21,15 +23,11 @@ _metroheap() {
         live) options='--workers --world --help' ;;
         race) options='--workers --help' ;;
         check) options='--pages --quantum --trigger --every --rules --sessions --no-full --log --help' ;;
-        migrate) options='--pages --quantum --trigger --every --help' ;;
         audit) options='--help' ;;
-        curve) options='--history --pauses --svg --every --quantum --longest --keeps --rules --help' ;;
+        migrate) options='--pages --quantum --trigger --every --help' ;;
+        generate) options='--seed --events --sessions --pages --quantum --trigger --every --profile --controls --rules --help' ;;
+        curve) options='--rules --history --pauses --svg --every --quantum --longest --keeps --help' ;;
         size) options='--rules --window --used --every --rate --parts --quanta --quantum --target --help' ;;
-        generate)
-            # Here a number follows, as it doesn't after the `--sessions` of `check`.
-            [[ ${COMP_WORDS[COMP_CWORD - 1]} == --sessions ]] && return
-            options='--seed --events --sessions --pages --quantum --trigger --every --profile --controls --rules --help'
-            ;;
         *) options='run steps cycles show live race check audit migrate generate curve size --help --version' ;;
     esac
     mapfile -t COMPREPLY < <(compgen -W "$options" -- "$word")

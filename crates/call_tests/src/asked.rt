@@ -1,13 +1,12 @@
 //! A state that is asked for one event after the other.
 
+use crate::answers::add_line;
 use crate::sweep::Attempt;
 use mh_heap::heap::Heap;
 use mh_model::command::Event;
 use mh_model::memory::NoMemory;
-use mh_model::reply::Reply;
 use mh_scan::scan::{OneScan, Scanner};
 use mh_state::state::State;
-use mh_text::reply_text::ReplyText;
 use mh_text::script::Script;
 use std::alloc::{AllocError, Global};
 use std::fmt::Write;
@@ -81,7 +80,7 @@ impl<'a> Asked<'a> {
     pub fn replies(&self) -> Result<String, Fail> {
         let mut lines = String::new(self.alloc);
         for entry in self.state.history() {
-            push_line(&mut lines, &entry.reply)?;
+            add_line(&mut lines, &entry.reply)?;
         }
         Ok(lines)
     }
@@ -123,20 +122,6 @@ impl Attempt for Asked<'_> {
         self.push_counts(&mut told)?;
         Ok(told)
     }
-}
-
-fn push_line(lines: &mut String, reply: &Reply) -> Result<(), AllocError> {
-    writeln!(lines, "{}", ReplyText(reply))?;
-    Ok(())
-}
-
-/// The lines of replies.
-pub fn lines_of(alloc: Global, replies: &[Reply]) -> Result<String, AllocError> {
-    let mut lines = String::new(alloc);
-    for reply in replies {
-        push_line(&mut lines, reply)?;
-    }
-    Ok(lines)
 }
 
 /// A way through the events of a script.

@@ -1,16 +1,12 @@
-//! A service whose seats make one call after the other.
-ghost use Rattle.std.specs.Prelude.{All};
-ghost use Rattle.mh_service.specs.Services.{IsOfService};
+//! A service whose calls are made one after the other.
 
+use crate::callers::Callers;
 use crate::sweep::Attempt;
 use mh_model::command::Event;
 use mh_model::memory::NoMemory;
 use mh_scan::gate::Open;
-use mh_service::seat::Seat;
-use mh_service::service::Service;
 use mh_text::script::Script;
 use std::alloc::Global;
-use std::fmt::Write;
 use std::sync::Wait;
 use std::test::Fail;
 use std::thread::Threads;
@@ -20,47 +16,16 @@ static OPEN: Open = Open;
 /// A service of two workers, and the events that its seats have not called for yet.
 #[derive(Drop)]
 pub struct Called<'a, R> {
-    rt: &'a R,
     alloc: Global,
-    service: Service<'static, Open>,
-    seats: Vec<Seat>,
+    callers: Callers<'a, R, Open>,
     events: &'a [Event],
-    ghost own: { All (IsOfService service) seats.items },
-}
-
-/// The number of the seat that makes the call of an event.
-fn owner_of(event: &Event) -> usize {
-    match event {
-        Event::Session(who, _) => usize::from(*who).min(8),
-        Event::Control(_) => 8,
-    }
-}
-
-/// Whether the call of an event is answered.
-fn is_answered<R: Threads + Wait>(
-    rt: &R,
-    service: &Service<'_, Open>,
-    seats: &mut [Seat],
-    event: Event,
-) -> bool
-    requires { All (IsOfService service.now) seats.old }
-    ensures { All (IsOfService service.now) seats.new }
-{
-    let index = owner_of(&event);
-    if index >= seats.len() || !seats[index].owns(&event) {
-        return false;
-    }
-    service.call(rt, &mut seats[index], event).is_ok()
 }
 
 impl<'a, R: Threads + Wait> Called<'a, R> {
     pub fn new(rt: &'a R, alloc: Global, script: &'a Script) -> Result<Called<'a, R>, NoMemory> {
-        let (service, seats) = Service::open(alloc, script.config(), 2, &OPEN)?;
         Ok(Called {
-            rt,
             alloc,
-            service,
-            seats,
+            callers: Callers::new(rt, alloc, script.config(), 2, &OPEN)?,
             events: script.events(),
         })
     }
@@ -71,7 +36,7 @@ impl<R: Threads + Wait> Attempt for Called<'_, R> {
         let Some((event, rest)) = self.events.split_first() else {
             return false;
         };
-        let is_done = is_answered(self.rt, &self.service, &mut self.seats, *event);
+        let is_done = matches!(self.callers.call(*event), Some(Ok(_)));
         if is_done {
             self.events = rest;
         }
@@ -80,10 +45,6 @@ impl<R: Threads + Wait> Attempt for Called<'_, R> {
 
     /// The text of the logs of all seats.
     fn told(&self) -> Result<String, Fail> {
-        let mut logs = String::new(self.alloc);
-        for seat in &self.seats {
-            writeln!(logs, "{:?}", seat.log())?;
-        }
-        Ok(logs)
+        Ok(self.callers.logs(self.alloc)?)
     }
 }

@@ -2,6 +2,7 @@
 ghost use Rattle.std.specs.Prelude.{◌<◌, ◌≤◌, All};
 ghost use Rattle.mh_service.specs.Services.{IsOfService};
 
+use crate::answers::add_line;
 use mh_model::command::Event;
 use mh_model::config::Config;
 use mh_model::history::Entry;
@@ -11,8 +12,7 @@ use mh_scan::crew_scan::CrewGate;
 use mh_service::seat::Seat;
 use mh_service::service::Service;
 use mh_state::machine::Stop;
-use mh_text::reply_text::ReplyText;
-use std::alloc::Global;
+use std::alloc::{AllocError, Global};
 use std::fmt::Write;
 use std::sync::Wait;
 use std::test::Fail;
@@ -33,6 +33,15 @@ pub fn owner_of(event: &Event) -> usize {
         Event::Session(who, _) => usize::from(*who).min(8),
         Event::Control(_) => 8,
     }
+}
+
+/// The text of the logs of all seats.
+pub fn logs_of(alloc: Global, seats: &[Seat]) -> Result<String, AllocError> {
+    let mut logs = String::new(alloc);
+    for seat in seats {
+        writeln!(logs, "{:?}", seat.log())?;
+    }
+    Ok(logs)
 }
 
 /// The answer to a call of its seat, which is none if there is no such seat.
@@ -71,6 +80,11 @@ impl<'a, R: Threads + Wait, G: CrewGate> Callers<'a, R, G> {
         answer(self.rt, &self.service, &mut self.seats, event)
     }
 
+    /// The text of the logs of all seats.
+    pub fn logs(&self, alloc: Global) -> Result<String, AllocError> {
+        logs_of(alloc, &self.seats)
+    }
+
     /// The history that they leave, which is none if they can't be closed.
     pub fn close(self) -> Option<Vec<Entry>> {
         let Callers {
@@ -87,8 +101,7 @@ impl<'a, R: Threads + Wait, G: CrewGate> Callers<'a, R, G> {
     /// Adds the line of the answer to a call, which is not refused.
     fn add_answer(&mut self, lines: &mut String, event: Event) -> Result<(), Fail> {
         let reply = self.call(event).ok_or("no seat")??;
-        writeln!(lines, "{}", ReplyText(&reply))?;
-        Ok(())
+        Ok(add_line(lines, &reply)?)
     }
 
     /// Whether these are the lines of the answers to these calls, none of which is refused.

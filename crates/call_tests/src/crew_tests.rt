@@ -84,35 +84,18 @@ impl<R: Threads> Course for ByCrew<'_, R> {
     }
 }
 
-/// How many bytes are left at the first of some steps, how many more at each next one, and how many steps there are.
-#[derive(Clone, Copy)]
-struct Range {
-    first: usize,
-    step: usize,
-    count: usize,
-}
-
 const KIBIBYTE: usize = 1 << 10;
 
 const MEBIBYTE: usize = 1 << 20;
 
+/// How many bytes are left at the first of some steps, how many more at each next one, and how many steps there are.
+type Range = (usize, usize, usize);
+
 /// Some thousand bytes in small steps, some hundred thousand in larger ones, and then as many as the start of a thread takes.
 const RANGES: [Range; 3] = [
-    Range {
-        first: 0,
-        step: 64,
-        count: 64,
-    },
-    Range {
-        first: 4 * KIBIBYTE,
-        step: 2 * KIBIBYTE,
-        count: 98,
-    },
-    Range {
-        first: 0,
-        step: 2 * MEBIBYTE,
-        count: 21,
-    },
+    (0, 64, 64),
+    (4 * KIBIBYTE, 2 * KIBIBYTE, 98),
+    (0, 2 * MEBIBYTE, 21),
 ];
 
 /// A script that a crew goes through, and what its state has to show in the end.
@@ -160,11 +143,11 @@ impl<'a, R: Threads> Steps<'a, R> {
     }
 
     /// How many pieces it begins at the last step of a range.
-    fn pieces_at_last(&self, famine: &mut Famine, range: &Range) -> Result<u64, Fail> {
+    fn pieces_at_last(&self, famine: &mut Famine, range: Range) -> Result<u64, Fail> {
+        let (first, more, count) = range;
         let mut pieces = 0;
-        for step in 0..range.count {
-            let more = range.step.saturating_mul(step);
-            pieces = self.pieces_with(famine, range.first.saturating_add(more))?;
+        for step in 0..count {
+            pieces = self.pieces_with(famine, first.saturating_add(more.saturating_mul(step)))?;
         }
         Ok(pieces)
     }
@@ -173,7 +156,7 @@ impl<'a, R: Threads> Steps<'a, R> {
     fn least_and_most(&self, famine: &mut Famine) -> Result<(u64, u64), Fail> {
         let least = self.pieces_with(famine, 0)?;
         let mut most = least;
-        for range in &RANGES {
+        for range in RANGES {
             most = self.pieces_at_last(famine, range)?;
         }
         Ok((least, most))

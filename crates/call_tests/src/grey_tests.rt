@@ -1,15 +1,26 @@
-use crate::table::{STAMP, make_block};
 use arrayvec::ArrayVec;
 use mh_blocks::blocks::Blocks;
+use mh_classes::parts::parts;
 use mh_grey::grey::Grey;
+use mh_model::birth::Birth;
+use mh_model::config::Rules;
 use mh_model::memory::NoMemory;
 use mh_model::place::Place;
-use mh_sweep::sweep::sweep_step;
 use std::alloc::Global;
 use std::test::Fail;
 
+/// The mark stamp of the block.
+const STAMP: u64 = 4;
+
 /// The cycle that marks the block.
 const CYCLE: u64 = STAMP + 1;
+
+/// Makes a block of two references and three numbers. Answers its place.
+fn make_block(blocks: &mut Blocks) -> Option<Place> {
+    let all = parts(Rules::Second, 2, 3)?;
+    let _ = all.count();
+    blocks.make(all.get(0), 0, Birth(0), STAMP).ok()
+}
 
 /// Whether a grey list has this place and no other.
 fn has_alone(grey: &Grey, place: Place) -> bool {
@@ -49,25 +60,5 @@ fn a_block_is_shaded(rt: HostRuntime) -> Result<(), Fail> {
         shading(rt.alloc(), &mut blocks)
     };
     assert_eq!(rt; seen?, Some([false, true, true, true]));
-    Ok(())
-}
-
-/// Where the sweep goes on after a new block, and whether the block is still there.
-fn sweeping(blocks: &mut Blocks) -> Option<(Place, bool)> {
-    let place = make_block(blocks)?;
-    if place.page() >= blocks.len() {
-        return None;
-    }
-    let next = sweep_step(blocks, CYCLE, place);
-    Some((next, blocks.is_taken(place)))
-}
-
-#[test]
-fn a_block_is_swept(rt: HostRuntime) -> Result<(), Fail> {
-    let seen = {
-        let mut blocks = Blocks::open(rt.alloc(), 1)?;
-        sweeping(&mut blocks)
-    };
-    assert_eq!(rt; seen, Some((Place(1), false)));
     Ok(())
 }

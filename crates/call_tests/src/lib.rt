@@ -1,6 +1,7 @@
-//! Tests of calls, below texts and above: words of pages, blocks, roots, the grey list, steps of the sweep and numbers that size a
-//! heap; heaps that never collect, quanta, runs, what is seen of runs in other heaps, judges, quoted words, random scripts and
-//! logs of pauses; draws, crews, locks and services in several threads; and what each part does when memory is refused to it.
+//! Tests of calls that the program doesn't make, or of what its output doesn't show: words of pages, the grey list, roots,
+//! heaps that never collect, runs and judges in memory, machines that forget, quoted words and random scripts; draws,
+//! crews, locks and services in several threads; and what each part does when memory is refused to it. What texts show is in
+//! `script_cases`.
 //!
 //! They are one crate, since most of what a crate of tests costs is building all that it stands on.
 #![tactic(auto)]
@@ -9,8 +10,6 @@
 mod answers;
 #[cfg(test)]
 mod asked;
-#[cfg(test)]
-mod block_tests;
 #[cfg(test)]
 mod bytes_tests;
 #[cfg(test)]
@@ -22,8 +21,6 @@ mod claim_tests;
 #[cfg(test)]
 mod crew_tests;
 #[cfg(test)]
-mod cycle_tests;
-#[cfg(test)]
 mod famine_tests;
 #[cfg(test)]
 mod forget_tests;
@@ -34,8 +31,6 @@ mod judge_tests;
 #[cfg(test)]
 mod lock_tests;
 #[cfg(test)]
-mod log_tests;
-#[cfg(test)]
 mod marks;
 #[cfg(test)]
 mod mix_tests;
@@ -43,8 +38,6 @@ mod mix_tests;
 mod opening_tests;
 #[cfg(test)]
 mod page_tests;
-#[cfg(test)]
-mod pause_tests;
 #[cfg(test)]
 mod plain_tests;
 #[cfg(test)]
@@ -64,11 +57,7 @@ mod scripts;
 #[cfg(test)]
 mod seat_tests;
 #[cfg(test)]
-mod seen_tests;
-#[cfg(test)]
 mod service_tests;
-#[cfg(test)]
-mod size_tests;
 #[cfg(test)]
 mod starved_run_tests;
 #[cfg(test)]
@@ -79,5 +68,3 @@ mod starved_service_tests;
 mod state_tests;
 #[cfg(test)]
 mod sweep;
-#[cfg(test)]
-mod table;

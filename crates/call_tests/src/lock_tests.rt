@@ -113,13 +113,6 @@ fn left_by<R: Threads + Wait + Sync>(
     }
 }
 
-#[test]
-fn two_threads_that_call_at_once_are_served(rt: HostRuntime) -> Result<(), Fail> {
-    let marks = left_by(&rt, rt.alloc(), 2, 500, &Pace::Turns(0))?;
-    assert!(rt; marks.len() == 1_000);
-    Ok(())
-}
-
 /// While one makes its slow call the others sleep, and each wake has to go on to the next.
 #[test]
 fn threads_that_sleep_are_served(rt: HostRuntime) -> Result<(), Fail> {

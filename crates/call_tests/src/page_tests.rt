@@ -34,30 +34,3 @@ fn words_are_written(rt: HostRuntime) -> Result<(), Fail> {
     assert_eq!(rt; found, Some([Some(0), Some(7), None]));
     Ok(())
 }
-
-/// Sets the flag of the first page, if it is in use.
-fn flag(pages: &mut Pages) {
-    if pages.len() > 0 && pages.class_at(0).is_some() {
-        pages.flag(0);
-    }
-}
-
-/// Where a search finds room beside the only block and how many words it reads, with the page unflagged and flagged.
-fn searches(pages: &mut Pages) -> Option<[(Option<Place>, u64); 2]> {
-    let class = class_of(10)?;
-    let _ = take_stamped(pages, class, 7)?;
-    let unflagged = pages.place_counted(class);
-    flag(pages);
-    Some([unflagged, pages.place_counted(class)])
-}
-
-/// One word shows that a set has no page, two words its least page, and one the free places of a page.
-#[test]
-fn a_search_reads_few_words(rt: HostRuntime) -> Result<(), Fail> {
-    let found = {
-        let mut pages = Pages::open(rt.alloc(), 1)?;
-        searches(&mut pages)
-    };
-    assert_eq!(rt; found, Some([(Some(Place(1)), 3), (Some(Place(1)), 5)]));
-    Ok(())
-}

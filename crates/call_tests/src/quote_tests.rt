@@ -23,18 +23,3 @@ fn bytes_are_escaped(rt: HostRuntime) -> Result<(), Fail> {
     }
     Ok(())
 }
-
-/// How long a quotation is, and whether it ends so.
-fn length_and_end(alloc: Global, word: &[u8], end: &str) -> Result<(usize, bool), AllocError> {
-    let told = format!(in alloc; "{}", quote(word))?;
-    Ok((told.len(), told.ends_with(end)))
-}
-
-#[test]
-fn eighty_bytes_are_quoted(rt: HostRuntime) -> Result<(), Fail> {
-    let bytes = [b'a'; 81];
-    let whole = length_and_end(rt.alloc(), &bytes[..80], "a\"")?;
-    let cut = length_and_end(rt.alloc(), &bytes, "a\"...")?;
-    assert_eq!(rt; (whole, cut), ((82, true), (85, true)));
-    Ok(())
-}

@@ -2,11 +2,10 @@
 ghost use Rattle.std.specs.Prelude.{◌<◌, ◌≤◌};
 
 use crate::answers::lines_of;
-use mh_model::command::{Command, Event};
+use mh_model::command::Event;
 use mh_model::config::Config;
 use mh_model::reply::Reply;
 use mh_scan::gate::Open;
-use mh_state::machine::Stop;
 use mh_state::run::{RunFault, run};
 use mh_text::script::parse;
 use std::alloc::Global;
@@ -45,24 +44,5 @@ fn is_answered<R: Threads>(rt: &R, alloc: Global, workers: usize) -> Result<bool
 fn a_run_answers_each_event(rt: HostRuntime) -> Result<(), Fail> {
     assert!(rt; is_answered(&rt, rt.alloc(), 1)?);
     assert!(rt; is_answered(&rt, rt.alloc(), 7)?);
-    Ok(())
-}
-
-const CLEAR: Event = Event::Session(0, Command::Clear { slot: 0 });
-
-/// Why a run of so many events stopped, if it did, and how many it did then.
-fn stop_of<R: Threads>(rt: &R, alloc: Global, count: usize) -> Result<Option<(Stop, usize)>, Fail> {
-    let config = Config::new(4, 353, 0, 0).ok_or("no configuration")?;
-    let events = vec![in alloc; CLEAR; count]?;
-    match replies_of(rt, alloc, config, &events, 1) {
-        Ok(_) => Ok(None),
-        Err(RunFault { stop, replies }) => Ok(Some((stop, replies.len()))),
-    }
-}
-
-#[test]
-fn a_run_stops_after_its_most_events(rt: HostRuntime) -> Result<(), Fail> {
-    let stop = stop_of(&rt, rt.alloc(), 1_000_001)?;
-    assert_eq!(rt; stop, Some((Stop::HistoryFull, 1_000_000)));
     Ok(())
 }

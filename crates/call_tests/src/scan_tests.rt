@@ -16,7 +16,7 @@ use std::alloc::{AllocError, Global};
 use std::test::Fail;
 use std::thread::Threads;
 use test_support::famine::Famine;
-use test_support::gates::{Hold, Seen, Watch};
+use test_support::gates::{Seen, Watch};
 
 fn leads(blocks: &Blocks, reference: Option<Place>) -> bool
     ensures { IsTrue result → Leads blocks.now reference }
@@ -126,37 +126,13 @@ struct Batch {
     most: u32,
 }
 
-const BATCHES: [Batch; 6] = [
-    Batch {
-        length: 0,
-        pieces: 0,
-        most: 1,
-    },
-    Batch {
-        length: 1,
-        pieces: 1,
-        most: 1,
-    },
-    Batch {
-        length: 16,
-        pieces: 1,
-        most: 1,
-    },
-    Batch {
-        length: 17,
-        pieces: 2,
-        most: 2,
-    },
-    Batch {
-        length: 104,
-        pieces: 7,
-        most: 2,
-    },
-    Batch {
-        length: 1_024,
-        pieces: 64,
-        most: 5,
-    },
+const BATCHES: [(usize, u64, u32); 6] = [
+    (0, 0, 1),
+    (1, 1, 1),
+    (16, 1, 1),
+    (17, 2, 2),
+    (104, 7, 2),
+    (1_024, 64, 5),
 ];
 
 impl Batch {
@@ -224,9 +200,14 @@ fn first_wrong<R: Threads>(
     blocks: &Blocks,
     places: &[Place],
 ) -> Result<Option<usize>, NoMemory> {
-    for batch in &BATCHES {
+    for (length, pieces, most) in BATCHES {
+        let batch = Batch {
+            length,
+            pieces,
+            most,
+        };
         if !batch.is_right(rt, alloc, blocks, places)? {
-            return Ok(Some(batch.length));
+            return Ok(Some(length));
         }
     }
     Ok(None)
@@ -265,52 +246,6 @@ fn unlinked(alloc: Global, blocks: &mut Blocks, part: Part) -> Result<Vec<Place>
         }
     }
     Ok(places)
-}
-
-/// Whether a crew of two finds one null reference in each of 64 blocks.
-fn finds_nulls<R: Threads>(
-    rt: &R,
-    alloc: Global,
-    gate: &Hold,
-    blocks: &Blocks,
-    batch: &[Place],
-) -> Result<bool, NoMemory> {
-    if !are_scannable(blocks, batch) {
-        return Ok(false);
-    }
-    let lists = CrewScan::new(rt, alloc, 2, gate).scan(blocks, batch)?;
-    Ok(
-        lists.len() == 64
-            && lists
-                .iter()
-                .all(|list| list.as_slice() == [None].as_slice()),
-    )
-}
-
-/// The same with the worker of the first piece held until another is begun, and whether that is met.
-fn finds_nulls_while_held<R: Threads>(
-    rt: &R,
-    alloc: Global,
-    until: u64,
-    part: Part,
-) -> Result<[bool; 2], NoMemory> {
-    let mut blocks = Blocks::open(alloc, 2)?;
-    let batch = unlinked(alloc, &mut blocks, part)?;
-    let gate = Hold::new(until);
-    let finds = finds_nulls(rt, alloc, &gate, &blocks, &batch)?;
-    Ok([finds, gate.is_met()])
-}
-
-/// One worker is held at the first of four pieces. The other goes on to the second, and to the last.
-#[test]
-fn a_worker_scans_on_while_another_is_held(rt: HostRuntime) -> Result<(), Fail> {
-    let all = parts(Rules::Second, 1, 0).ok_or("too large")?;
-    let _ = all.count();
-    for until in [1, 3] {
-        let found = finds_nulls_while_held(&rt, rt.alloc(), until, all.get(0))?;
-        assert_eq!(rt; found, [true, true], "until piece {until}");
-    }
-    Ok(())
 }
 
 /// With so many bytes left a crew of two can be hired, and no piece be scanned: the lists of one take 15,488.

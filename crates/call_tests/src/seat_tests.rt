@@ -2,7 +2,7 @@
 ghost use Rattle.std.specs.Prelude.{All};
 ghost use Rattle.mh_service.specs.Services.{IsOfService};
 
-use crate::callers::owner_of;
+use crate::callers::{logs_of, owner_of};
 use mh_model::command::Event;
 use mh_model::config::Config;
 use mh_model::history::Entry;
@@ -17,7 +17,7 @@ use std::sync::atomic::Ordering::SeqCst;
 use std::test::Fail;
 use std::thread;
 use std::thread::Threads;
-use test_support::gates::{Eager, Tally, wait_for};
+use test_support::gates::{Tally, Watch, wait_for};
 
 const ROUNDS: u64 = 48;
 
@@ -48,7 +48,7 @@ impl Rounds<'_> {
 /// Makes a call if the event is one of the seat's.
 fn call<R: Threads + Wait>(
     rt: &R,
-    service: &Service<'_, Eager>,
+    service: &Service<'_, Watch>,
     seat: &mut Seat,
     event: Event,
 ) -> bool
@@ -61,7 +61,7 @@ fn call<R: Threads + Wait>(
 /// Makes a call in each round.
 fn call_each_round<R: Threads + Wait>(
     rt: &R,
-    service: &Service<'_, Eager>,
+    service: &Service<'_, Watch>,
     seat: &mut Seat,
     rounds: &Rounds<'_>,
 )
@@ -80,7 +80,7 @@ fn call_each_round<R: Threads + Wait>(
 /// Each seat in a thread of its own.
 fn call_by_threads<R: Threads + Wait + Sync>(
     rt: &R,
-    service: &Service<'_, Eager>,
+    service: &Service<'_, Watch>,
     seats: &mut Vec<Seat>,
     rounds: &Rounds<'_>,
 )
@@ -91,15 +91,6 @@ fn call_by_threads<R: Threads + Wait + Sync>(
         requires { IsOfService service.now seat.now }
     { call_each_round(rt, service, seat, rounds) };
     thread::for_each_mut(rt, seats.as_mut_slice(), 9, &one);
-}
-
-/// The text of the logs of all seats.
-fn logs_of(alloc: Global, seats: &[Seat]) -> Result<String, AllocError> {
-    let mut logs = String::new(alloc);
-    for seat in seats {
-        writeln!(logs, "{:?}", seat.log())?;
-    }
-    Ok(logs)
 }
 
 /// A seat's own entries of a history.
@@ -138,7 +129,7 @@ fn is_shared(alloc: Global, history: &[Entry], logs: &str) -> Result<bool, Alloc
 }
 
 /// The history that a service leaves, which is empty if it doesn't close.
-fn history_left(alloc: Global, service: Service<'_, Eager>, seats: Vec<Seat>) -> Vec<Entry>
+fn history_left(alloc: Global, service: Service<'_, Watch>, seats: Vec<Seat>) -> Vec<Entry>
     requires { All (IsOfService service) seats.items }
 {
     match service.close(seats) {
@@ -154,7 +145,8 @@ fn is_left_by_threads<R: Threads + Wait + Sync>(
     config: Config,
     rounds: &Rounds<'_>,
 ) -> Result<bool, Fail> {
-    let (service, mut seats) = Service::open(alloc, config, 2, &Eager)?;
+    let gate = Watch::new(0);
+    let (service, mut seats) = Service::open(alloc, config, 2, &gate)?;
     call_by_threads(rt, &service, &mut seats, rounds);
     let logs = logs_of(alloc, &seats);
     let history = history_left(alloc, service, seats);

@@ -7,12 +7,11 @@ use mh_model::reply::Reply;
 use mh_scan::crew_scan::CrewGate;
 use mh_state::machine::Stop;
 use mh_text::script::{Script, parse};
-use std::alloc::{AllocError, Global};
-use std::fmt::Write;
+use std::alloc::Global;
 use std::sync::Wait;
 use std::test::Fail;
 use std::thread::Threads;
-use test_support::gates::{Eager, Seen, Watch};
+use test_support::gates::{Seen, Watch};
 use test_support::graph::{CYCLES_SEEN, cycles_output, cycles_script};
 
 /// Whether these are the lines of the answers to the calls of a script.
@@ -47,45 +46,6 @@ fn two_workers_share_each_batch_of_a_service(rt: HostRuntime) -> Result<(), Fail
         let (is_right, seen) = cycles_by(&rt, rt.alloc(), workers)?;
         assert!(rt; is_right && seen == CYCLES_SEEN, "with {workers} workers");
     }
-    Ok(())
-}
-
-/// How many cycles the desk asks for, each by four calls.
-const CYCLES: u64 = 250;
-
-/// An object of a session, and then cycles that the desk asks for.
-fn desk_script(alloc: Global) -> Result<Vec<u8>, AllocError> {
-    let mut script = Vec::from_slice(alloc, b"config 4 400 0 0\na new 0 0 0\n")?;
-    for _ in 0..CYCLES {
-        script.extend_from_slice(b"* start\n* quantum\n* left\n* stat\n")?;
-    }
-    Ok(script)
-}
-
-/// What it is given.
-fn desk_output(alloc: Global) -> Result<String, AllocError> {
-    let mut output = String::new(alloc);
-    output.push_str("ok\n")?;
-    for cycle in 1..=CYCLES {
-        let first = "ok\nspent 360 phase idle\nleft 0";
-        writeln!(
-            output,
-            "{first}\nfree 3 live 1 old 0 phase idle cycle {cycle}"
-        )?;
-    }
-    Ok(output)
-}
-
-/// Whether it is given this.
-fn desk_is_answered<R: Threads + Wait>(rt: &R, alloc: Global) -> Result<bool, Fail> {
-    let script = parse(alloc, &desk_script(alloc)?)?;
-    let output = desk_output(alloc)?;
-    answers_are(rt, alloc, &script, 2, &Eager, output.as_bytes())
-}
-
-#[test]
-fn a_desk_makes_a_thousand_calls(rt: HostRuntime) -> Result<(), Fail> {
-    assert!(rt; desk_is_answered(&rt, rt.alloc())?);
     Ok(())
 }
 
@@ -129,7 +89,8 @@ fn fills_and_stops<R: Threads + Wait, G: CrewGate>(
 /// The same of a service of its own, by an event of each seat.
 fn fill_and_stop<R: Threads + Wait>(rt: &R, alloc: Global) -> Result<Option<[bool; 2]>, Fail> {
     let script = parse(alloc, EACH_SEAT)?;
-    let mut callers = Callers::new(rt, alloc, script.config(), 2, &Eager)?;
+    let gate = Watch::new(0);
+    let mut callers = Callers::new(rt, alloc, script.config(), 2, &gate)?;
     Ok(fills_and_stops(&mut callers, script.events()))
 }
 

@@ -1,6 +1,7 @@
 ghost use Rattle.std.specs.Prelude.{◌<◌, ◌≤◌};
 
-use crate::asked::{Asked, Course, lines_of, told_by};
+use crate::answers::lines_of;
+use crate::asked::{Asked, Course, told_by};
 use crate::scripts::{every_kind, wide};
 use crate::sweep::{MOST_STEPS, PLENTY, STEP, begin_with_plenty};
 use mh_model::reply::Reply;
@@ -10,7 +11,7 @@ use std::alloc::Global;
 use std::test::Fail;
 use std::thread::Threads;
 use test_support::famine::Famine;
-use test_support::gates::Eager;
+use test_support::gates::Watch;
 
 /// All events, with memory at hand, up to the lines of all replies.
 #[derive(Clone, Copy)]
@@ -32,7 +33,8 @@ fn stopped_replies<R: Threads>(
 ) -> Option<Vec<Reply>>
     requires { (0 < workers) × (workers ≤ 64) }
 {
-    let outcome = run(rt, alloc, script.config(), script.events(), workers, &Eager);
+    let gate = Watch::new(0);
+    let outcome = run(rt, alloc, script.config(), script.events(), workers, &gate);
     let RunFault { stop: _, replies } = outcome.err()?;
     Some(replies)
 }

@@ -1,9 +1,9 @@
 -- The index of a table after each change of it.
 use Rattle.std.proofs.Common.{◌≡◌, ◌≢◌, ℕ, zero, suc, ◌*◌, ◌<◌, ◌==◌, Bool, true, false, List, [], ◌∷◌, length, get_or, set, replicate, Option, Some, None, option_map, option_and_then, unwrap_or, is_some, IsSome, ◌⊎◌, inl, inr, refl, sym, ap, ◌∙◌, arith, get_or-set_same, get_or-set_other}
-use Rattle.std.proofs.lemmas.Bool.{cases_eq, false≢true, ne_eqb}
+use Rattle.std.proofs.lemmas.Bool.{cases_eq, false≢true}
 use Rattle.std.proofs.lemmas.List.{length-set}
 use Rattle.mh_model.specs.Pages.{Page, Table, page_number, slot_number, page_at, block_in, block_at, block_count, count_at, with_block, with_taken, with_released, with_flag, IsFreeFor}
-use Rattle.mh_model.specs.Table.{Block, is_forwarder, stamp_at, with_block_change, with_stamp_at}
+use Rattle.mh_model.specs.Table.{Block, is_forwarder, with_block_change, with_stamp_at}
 use Rattle.mh_model.specs.Collector.{Move, moved_table, is_marked}
 use Rattle.mh_table_laws.proofs.Lists.{below_length}
 use Rattle.mh_table_laws.proofs.placing.Places.{block_at-with_block_there, block_at-with_block_other, block_at-with_taken_same, block_at-with_taken_other, block_at-with_taken_there}
@@ -227,17 +227,3 @@ moved_index table place move index at original free is =
           changed is_forwarder put (with_block put place (Some gone)) index.forwarders place true (page_inside put place (ap is_some still_there)) (length-set put (page_number place) _) (λ other apart. block_at-with_block_other put place other _ apart)
           (sym (ap (λ content. unwrap_or (option_map is_forwarder content) false) (block_at-with_block_there put place (Some gone) (ap is_some still_there)))) copied.forwards;
     }
-
--- the marks of a cycle of which no block has the stamp
-pub begun_index : (table : Table Block) (cycle : ℕ) (index : Index) → ((place : ℕ) → IsSome (block_at table place) → stamp_at table place ≢ cycle) → IsIndexOf table index → IsIndexOf table (record index { marked = replicate (length index.marked) false; cycle = cycle })
-begun_index table cycle index white is = record {
-  marks = record {
-    long = length-none (length index.marked) false ∙ is.marks.long;
-    each = λ place. no-place (length index.marked) place ∙ sym (unmarked place (block_at table place) refl);
-  };
-  forwards = is.forwards;
-}
-  where
-    unmarked : (place : ℕ) (content : Option Block) → block_at table place ≡ content → unwrap_or (option_map (is_marked cycle) content) false ≡ false
-    unmarked place None at = refl
-    unmarked place (Some block) at = ne_eqb block.stamp cycle (λ e. white place (ap is_some at) (ap (λ content. unwrap_or (option_map (λ (b : Block). b.stamp) content) 0) at ∙ e))

@@ -53,7 +53,7 @@ impl Blocks {
         self.is_taken(place) && (self.is_forwarder(place) || !self.is_marked(place, cycle))
     }
 
-    /// The same slots, found block by block.
+    /// The slots of a page that a sweep frees, found block by block.
     #[tactic(auto, using(crate::proofs::DeadLemmas::none_found, crate::proofs::DeadLemmas::dead_found, crate::proofs::DeadLemmas::living_found))]
     fn dead_by_stamps(&self, page: usize, cycle: u64) -> u64
         requires { page < length self.now }

@@ -227,6 +227,6 @@ abbrev pub quantum_events : Bool → ℕ → Course → Ran → List TraceEvent
 quantum_events told number course ran = if ran.ended.units == 0 then [] else
     quantum_begins number course.time ran.ended course.slices ++ (deeds_events told course ran.deeds ++ quantum_ends (course_after_all told course ran.deeds))
 
--- and its course after that
+-- the course of a run after a quantum
 abbrev pub quantum_course : Bool → Course → Ran → Course
 quantum_course told course ran = if ran.ended.units == 0 then course else course_after_all told course ran.deeds

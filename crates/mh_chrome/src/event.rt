@@ -11,13 +11,12 @@ ghost use Rattle.mh_chrome.specs.Deeds.{session_thread, total};
 ghost use Rattle.mh_chrome.specs.Runs.{begun_by, command_events, command_fields, control_events, ran_course, ran_events, session_name, shade_count, told_events, thread_events, is_seen, seen_after};
 ghost use Rattle.mh_chrome.specs.TraceEvents.{Begin, arguments_text, next_text, next_texts};
 
-use crate::command::push_command;
 use crate::counters::count_all;
 use crate::course::{Course, Slices};
 use crate::quantum::push_quantum;
 use crate::trace_event::{push_end, push_placed, push_thread};
 use mh_deeds::account::Account;
-use mh_history::measured_line::{push_event, push_reply};
+use mh_history::measured_line::{push_command, push_event, push_reply};
 use mh_model::command::{Command, Event};
 use mh_model::deed::Deed;
 use mh_model::history::Entry;

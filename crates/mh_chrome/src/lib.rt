@@ -6,7 +6,6 @@
 //! written as the run goes.
 #![tactic(auto)]
 
-mod command;
 mod counters;
 pub mod course;
 mod event;

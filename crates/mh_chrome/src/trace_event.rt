@@ -46,7 +46,7 @@ pub(crate) fn push_begin(
     Ok(())
 }
 
-/// The same of a slice with a number after its name.
+/// Adds the beginning of a slice with a number after its name.
 pub(crate) fn push_begin_numbered(
     text: &mut String,
     time: u128,
@@ -64,7 +64,7 @@ pub(crate) fn push_begin_numbered(
     Ok(())
 }
 
-/// And of one with a place after its name.
+/// Adds the beginning of a slice with a place after its name.
 pub(crate) fn push_begin_placed(
     text: &mut String,
     time: u128,

@@ -22,6 +22,6 @@ pub record HasDrawn (about : ℕ × ℕ) (before : Me (Unit {0}) Lists) (found :
   pub rising : next_of (first_list before) ≤ found
   pub rule : IsDrawnByRule about.0 about.1 (first_list before) (first_list before ++ found ∷ []) (answer_found about.0 found)
 
--- the same of a step at the word
+-- a step at the word draws as the draw rule has it
 abbrev pub Draws : ℕ × ℕ → Step (Unit {0}) → Me (Unit {0}) Lists → ℕ → Me (Unit {0}) Lists → Type 0
 Draws about step before found after = HasDrawn about before found after

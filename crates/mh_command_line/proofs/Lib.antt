@@ -1,6 +1,7 @@
-pub mod CommandLemmas
-pub mod FaultLemmas
-pub mod NumberLemmas
-pub mod OptionLemmas
-pub mod ReadingLemmas
-pub mod SubcommandLemmas
+mod AskedLemmas
+mod NumberLemmas
+mod OptionLemmas
+mod OrderLemmas
+mod ReadingLemmas
+mod SoundLemmas
+mod TableLemmas

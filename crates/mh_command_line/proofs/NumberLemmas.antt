@@ -12,7 +12,7 @@ use Rattle.mh_model.specs.Configs.{configured_by, configured_under}
 use Rattle.mh_model.specs.Limits.{is_configuration, least_quantum}
 use Rattle.mh_model.specs.declared.config.Config.{Config}
 use Rattle.mh_model.specs.declared.config.Rules.{Rules}
-use Rattle.mh_command_line.specs.Line.{HoldsNumber, IsHeld, IsNumber, ReadsNumber, number_in_digits}
+use Rattle.mh_command_line.specs.Values.{HoldsNumber, IsHeld, IsNumber, ReadsNumber, number_in_digits}
 use Rattle.mh_command_line.specs.Orders.{AreOutside, HasNumbers, IsBlamed, IsOutsideBy, MakesConfig, ConfigNumbers, config_under}
 use Rattle.mh_command_line.specs.declared.options.OptionNumber.{OptionNumber}
 use Rattle.mh_orders.specs.declared.order.ConfigOption.{ConfigOption}

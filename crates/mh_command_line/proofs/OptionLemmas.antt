@@ -18,7 +18,7 @@ use Rattle.clap.specs.Faults.{bundle_fault, bundle_step_fault, defaults_fault, f
 use Rattle.clap.specs.declared.builder.value_parser.ValueParser.{ValueParser}
 use Rattle.clap.specs.declared.builder.value_parser.ValueParser.TheVariants as vp
 use Rattle.std.proofs.lemmas.Slice.Eq.{bytes_eq-Decides}
-use Rattle.mh_command_line.specs.Line.{flag_rule}
+use Rattle.mh_command_line.specs.Table.{flag_rule}
 use Rattle.clap.specs.declared.builder.value_parser.Reading.{Reading}
 use Rattle.clap.specs.declared.builder.value_parser.Reading.TheVariants.{AsWritten}
 use Rattle.clap.specs.declared.error.kind.ErrorKind.{ErrorKind}

@@ -1,5 +1,7 @@
 -- The order that the matches of a command line give, and why other words give none.
-use Rattle.std.specs.Prelude.{◌≡◌, ◌≢◌, ◌⊎◌, ◌<◌, ◌≤◌, ◌/◌, ℕ, zero, suc, true, false, not, if◌then◌else◌, List, [], Option, Some, None, Result, Ok, Err, codes, IsSome, IsSomeAnd, MatchOption}
+use Rattle.std.specs.Prelude.{◌≡◌, ◌≢◌, ◌⊎◌, ◌<◌, ◌≤◌, ◌/◌, ℕ, zero, suc, true, false, not, if◌then◌else◌, List, [], Option, Some, None, Result, Ok, Err, codes, find, IsSomeAnd, MatchOption}
+use Rattle.std.specs.Option.{option_map_or}
+use Rattle.std.specs.Str.{bytes_eq}
 use Rattle.clap.specs.declared.error.kind.ErrorKind.{ErrorKind}
 use Rattle.clap.specs.declared.error.kind.ErrorKind.TheVariants.{ArgumentConflict, DisplayVersion, MissingRequiredArgument, OutOfMemory, ValueValidation}
 use Rattle.clap.specs.Words.{Row, Text, one_of, subcommand_of, fault_of, kind_of, IsAmong}
@@ -31,12 +33,14 @@ use Rattle.mh_orders.specs.declared.steps.Form as steps
 use Rattle.mh_orders.specs.declared.steps.Form.TheVariants as form
 use Rattle.mh_orders.specs.declared.order.ConfigOption.{ConfigOption}
 use Rattle.mh_orders.specs.declared.order.ConfigOption.TheVariants.{Pages, Quantum, Trigger, Every}
-use Rattle.mh_command_line.specs.declared.options.CurveFault.{CurveFault}
 use Rattle.mh_command_line.specs.declared.options.OptionFault.{OptionFault}
-use Rattle.mh_command_line.specs.declared.options.OptionFault.TheVariants.{NoNumber, NoProfile, NoRates, Missing, Lacking, Unwanted, OfLog, NoFullAlone, OfCurve, Beside, Outside}
-use Rattle.mh_command_line.specs.Curves.{AreCurveOptions, HasCurveFault, kind_of_curve_fault}
-use Rattle.mh_command_line.specs.Sizes.{AreRoomOptions, AreScriptOptions, AreTargetOptions, IsAlone, IsWanted, LacksRates}
-use Rattle.mh_command_line.specs.Line.{HasNumber, IsConfigOption, LacksNumber, WantsConfig, is_flagged, metroheap, number_or, optional_number, rules_given, rules_chosen, workers_of}
+use Rattle.mh_command_line.specs.declared.options.OptionFault.TheVariants.{Breaks, NoNumber, Missing, Outside}
+use Rattle.mh_command_line.specs.declared.table.Rule.{Rule}
+use Rattle.mh_command_line.specs.declared.table.Rule.TheVariants as rule
+use Rattle.mh_command_line.specs.Curves.{AreCurveOptions}
+use Rattle.mh_command_line.specs.Sizes.{AreRoomOptions, AreScriptOptions, AreTargetOptions}
+use Rattle.mh_command_line.specs.Table.{AllPass, OptionRule, metroheap, rule_of_row, table}
+use Rattle.mh_command_line.specs.Values.{HasNumber, IsConfigOption, LacksNumber, breaks, is_flagged, number_or, optional_number, rules_chosen, rules_given, workers_of}
 
 -- Orders -----------------------------------------------------------------------------------------
 
@@ -162,6 +166,38 @@ IsOrder name rows (SizeRoom options) = (name ≡ codes "size") × AreRoomOptions
 IsOrder name rows (SizeTarget options) = (name ≡ codes "size") × AreTargetOptions rows options
 IsOrder name rows Version = ⊥
 
+-- from 1 to 64 workers, if the order has workers
+abbrev pub HasFewWorkers : Order → Type 0
+HasFewWorkers (Run options) = (0 < options.workers) × (options.workers ≤ 64)
+HasFewWorkers (Live options) = (0 < options.workers) × (options.workers ≤ 64)
+HasFewWorkers (Race workers) = (0 < workers) × (workers ≤ 64)
+HasFewWorkers order = Unit {0}
+
+-- the first rules, if the order is to migrate
+abbrev pub HasFirstRules : Order → Type 0
+HasFirstRules (Migrate config) = config.rules ≡ First
+HasFirstRules order = Unit {0}
+
+-- The table --------------------------------------------------------------------------------------
+
+-- the name is that of a subcommand, and each value is as the table has it
+abbrev pub Takes : Text → List Row → Type 0
+Takes name rows = IsSomeAnd (find (λ row. bytes_eq row.0 name) table) (λ row. AllPass rows row.1)
+
+-- the words name one
+abbrev pub NamesOne : Option (Text × List Row) → Type 0
+NamesOne matched = IsSomeAnd matched (λ subcommand. Takes subcommand.0 subcommand.1)
+
+-- the first of the rules of a subcommand that the options break
+abbrev pub broken_rule : Text → List Row → Option OptionRule
+broken_rule name rows = option_map_or (λ row. find (breaks rows) row.2) (find (λ row. bytes_eq row.0 name) table) None
+
+-- Faults -----------------------------------------------------------------------------------------
+
+-- the subcommand wants a configuration: `migrate` does, and `check` without `--sessions` and `--log`
+abbrev pub WantsConfig : Text → List Row → Type 0
+WantsConfig name rows = ((name ≡ codes "check") × (is_flagged (codes "sessions") rows ≡ false) × (is_flagged (codes "log") rows ≡ false)) ⊎ (name ≡ codes "migrate")
+
 -- an option of a configuration is outside its limits: that of the trigger if it is above that of the pages
 abbrev pub IsOutsideBy : ConfigOption → ConfigNumbers → Type 0
 IsOutsideBy Pages numbers = (numbers.pages < 1) ⊎ (4096 < numbers.pages)
@@ -184,79 +220,52 @@ IsAbovePages rows option = (option ≡ Trigger) × (generated_config rows ≡ No
 abbrev pub IsOutside : Text → List Row → ConfigOption → Type 0
 IsOutside name rows option = (WantsConfig name rows × AreOutside rows option) ⊎ ((name ≡ codes "generate") × IsAbovePages rows option)
 
--- from 1 to 64 workers, if the order has workers
-abbrev pub HasFewWorkers : Order → Type 0
-HasFewWorkers (Run options) = (0 < options.workers) × (options.workers ≤ 64)
-HasFewWorkers (Live options) = (0 < options.workers) × (options.workers ≤ 64)
-HasFewWorkers (Race workers) = (0 < workers) × (workers ≤ 64)
-HasFewWorkers order = Unit {0}
-
--- the first rules, if the order is to migrate
-abbrev pub HasFirstRules : Order → Type 0
-HasFirstRules (Migrate config) = config.rules ≡ First
-HasFirstRules order = Unit {0}
-
--- Faults -----------------------------------------------------------------------------------------
-
 -- the option that is blamed of numbers that are no configuration: one that is outside its limits, and that of the trigger if no other is
 abbrev pub IsBlamed : (pages quantum every : ℕ) → ConfigOption → Type 0
 IsBlamed pages quantum every Trigger = (1 ≤ pages) × (pages ≤ 4096) × (least_quantum ≤ quantum) × (quantum ≤ 1000000) × (every ≤ 1000000)
 IsBlamed pages quantum every option = IsOutsideBy option (record { pages = pages; quantum = quantum; trigger = 0; every = every })
 
--- the text of the profile that is asked for names none
-abbrev pub LacksProfile : List Row → Type 0
-LacksProfile rows = IsSomeAnd (one_of (codes "profile") rows) (λ text. (profile : Profile) → text ≢ profile_name profile)
-
 -- what is wrong with the options of a configuration: one is no number, or is missing, or is outside its limits
 abbrev pub IsNumberFault : List Row → OptionFault → Type 0
+IsNumberFault rows (Breaks row text) = ⊥
 IsNumberFault rows (NoNumber name text) = IsConfigOption name.now × LacksNumber rows name.now
 IsNumberFault rows (Missing name) = IsConfigOption name.now × (one_of name.now rows ≡ None)
 IsNumberFault rows (Outside option) = AreOutside rows option
-IsNumberFault rows other = ⊥
 
--- the flag is `--sessions` or `--log`, and is given
-abbrev pub IsJudgingFlag : List Row → Text → Type 0
-IsJudgingFlag rows flag = ((flag ≡ codes "sessions") ⊎ (flag ≡ codes "log")) × (is_flagged flag rows ≡ true)
-
--- a flag of histories is given beside `--log`
-abbrev pub IsOfLog : List Row → Text → Type 0
-IsOfLog rows flag = ((flag ≡ codes "sessions") ⊎ (flag ≡ codes "no-full")) × (is_flagged flag rows ≡ true) × (is_flagged (codes "log") rows ≡ true)
-
--- `--no-full` is given without `--sessions`
-abbrev pub IsNoFullAlone : List Row → Type 0
-IsNoFullAlone rows = (is_flagged (codes "no-full") rows ≡ true) × (is_flagged (codes "sessions") rows ≡ false)
-
--- what is wrong with those of a subcommand: these are, if it wants a configuration; or options of `check` don't go together; or a random script is amiss; or options of `curve` or of `size` are amiss
+-- what is wrong with those of a subcommand: they break a rule; one is outside its limits; or these are, if it wants a configuration
 abbrev pub HasOptionFault : Text → List Row → OptionFault → Type 0
-HasOptionFault subcommand rows (Unwanted name flag) = (subcommand ≡ codes "check") × IsConfigOption name.now × IsJudgingFlag rows flag.now × IsSome (one_of name.now rows)
-HasOptionFault subcommand rows (OfLog flag) = (subcommand ≡ codes "check") × IsOfLog rows flag.now
-HasOptionFault subcommand rows NoFullAlone = (subcommand ≡ codes "check") × IsNoFullAlone rows
-HasOptionFault subcommand rows (OfCurve fault) = (subcommand ≡ codes "curve") × HasCurveFault rows fault
+HasOptionFault subcommand rows (Breaks row text) = broken_rule subcommand rows ≡ Some (rule_of_row row)
 HasOptionFault subcommand rows (Outside option) = IsOutside subcommand rows option
-HasOptionFault subcommand rows (NoProfile text) = (subcommand ≡ codes "generate") × LacksProfile rows
-HasOptionFault subcommand rows (NoRates text) = (subcommand ≡ codes "size") × LacksRates rows
-HasOptionFault subcommand rows (Lacking name) = (subcommand ≡ codes "size") × IsWanted rows name.now × (one_of name.now rows ≡ None)
-HasOptionFault subcommand rows (Beside name other) = (subcommand ≡ codes "size") × IsAlone rows name.now other.now × IsSome (one_of name.now rows) × IsSome (one_of other.now rows)
 HasOptionFault subcommand rows fault = WantsConfig subcommand rows × IsNumberFault rows fault
 
--- `clap` takes the options of a subcommand, and one of a configuration, a profile, or one of `curve` or of `size` is amiss: the kind of fault that this is
+-- the kind by which `clap` refuses options that break a rule
+abbrev pub rule_kind : Rule → ErrorKind
+rule_kind rule.Wants = MissingRequiredArgument
+rule_kind rule.WantsWith = MissingRequiredArgument
+rule_kind rule.WantsUnless = MissingRequiredArgument
+rule_kind rule.Beside = ArgumentConflict
+rule_kind rule.BesideWith = ArgumentConflict
+rule_kind rule.Share = ValueValidation
+rule_kind rule.Rates = ValueValidation
+rule_kind rule.Profile = ValueValidation
+
+-- `clap` takes the options of a subcommand, and they are amiss: the kind of fault that this is
 pub data AreAmiss (name : Text) (rows : List Row) : ErrorKind → Type 0 where
+  BreakRule : (row : OptionRule) → broken_rule name rows ≡ Some row → AreAmiss name rows (rule_kind row.0)
   IsNoNumber : WantsConfig name rows → (option : Text) → IsConfigOption option → LacksNumber rows option → AreAmiss name rows ValueValidation
   IsMissing : WantsConfig name rows → (option : Text) → IsConfigOption option → one_of option rows ≡ None → AreAmiss name rows MissingRequiredArgument
-  IsNoProfile : name ≡ codes "generate" → LacksProfile rows → AreAmiss name rows ValueValidation
-  AreNoRates : name ≡ codes "size" → LacksRates rows → AreAmiss name rows ValueValidation
-  IsLacking : name ≡ codes "size" → (option : Text) → IsWanted rows option → one_of option rows ≡ None → AreAmiss name rows MissingRequiredArgument
-  IsBeside : name ≡ codes "size" → (option other : Text) → IsAlone rows option other → IsSome (one_of option rows) → IsSome (one_of other rows) → AreAmiss name rows ArgumentConflict
-  IsUnwanted : name ≡ codes "check" → (option flag : Text) → IsConfigOption option → IsJudgingFlag rows flag → IsSome (one_of option rows) → AreAmiss name rows ArgumentConflict
-  AreOfLog : name ≡ codes "check" → (flag : Text) → IsOfLog rows flag → AreAmiss name rows ArgumentConflict
-  AreOfCurve : name ≡ codes "curve" → (fault : CurveFault) → HasCurveFault rows fault → AreAmiss name rows (kind_of_curve_fault fault)
-  LackSessions : name ≡ codes "check" → IsNoFullAlone rows → AreAmiss name rows MissingRequiredArgument
 
 -- Words ------------------------------------------------------------------------------------------
 
+-- what a subcommand gives: each value is as the table has it, no rule is broken, and the order is what the options ask for
+pub record Gives (name : Text) (rows : List Row) (given : Order) : Type 0 where
+  pub takes : Takes name rows
+  pub meets : broken_rule name rows ≡ None
+  pub order : IsOrder name rows given
+
 -- what words mean: `clap` takes them, and their subcommand gives the order; or `clap` finds that they ask for the version
 pub data Mean (words : List Text) (order : Order) : Type 0 where
-  Named : fault_of metroheap words ≡ [] → IsSomeAnd (subcommand_of metroheap words) (λ subcommand. IsOrder subcommand.0 subcommand.1 order) → Mean words order
+  Named : fault_of metroheap words ≡ [] → IsSomeAnd (subcommand_of metroheap words) (λ subcommand. Gives subcommand.0 subcommand.1 order) → Mean words order
   AsksVersion : order ≡ Version → IsAmong DisplayVersion (fault_of metroheap words) → Mean words order
 
 -- words give an order
@@ -265,20 +274,15 @@ pub record GivesOrder (words : List Text) (order : Order) : Type 0 where
   pub few : HasFewWorkers order
   pub rules : HasFirstRules order
 
--- `clap` takes the words, and this option of their subcommand is outside the limits of a configuration
-pub record AsksOutside (words : List Text) (option : ConfigOption) : Type 0 where
+-- `clap` takes the words, and this is so of the options of their subcommand
+pub record AskAmiss (words : List Text) (P : Text → List Row → Type 0) : Type 0 where
   pub taken : fault_of metroheap words ≡ []
-  pub named : IsSomeAnd (subcommand_of metroheap words) (λ subcommand. IsOutside subcommand.0 subcommand.1 option)
-
--- `clap` takes the words, and the options of their subcommand are amiss
-pub record AskAmiss (words : List Text) (kind : ErrorKind) : Type 0 where
-  pub taken : fault_of metroheap words ≡ []
-  pub named : IsSomeAnd (subcommand_of metroheap words) (λ subcommand. AreAmiss subcommand.0 subcommand.1 kind)
+  pub named : IsSomeAnd (subcommand_of metroheap words) (λ subcommand. P subcommand.0 subcommand.1)
 
 -- why words give no order, of which `clap` says what is wrong: it doesn't take them, or their options are amiss
 pub data AreRefused (words : List Text) (kind : ErrorKind) : Type 0 where
   NotTaken : IsAmong kind (fault_of metroheap words) → AreRefused words kind
-  NotMet : AskAmiss words kind → AreRefused words kind
+  NotMet : AskAmiss words (λ name rows. AreAmiss name rows kind) → AreRefused words kind
 
 -- words are refused only if `clap` doesn't take them, with one of the kinds of fault that it finds first; if their options
 -- are amiss, with the kind of that; or if their configuration is outside the limits. Words that ask for the version are
@@ -286,7 +290,7 @@ pub data AreRefused (words : List Text) (kind : ErrorKind) : Type 0 where
 abbrev pub IsFault : List Text → LineFault → Type 0
 IsFault words (Words error) = (kind_of error ≢ DisplayVersion) × AreRefused words (kind_of error)
 IsFault words NotText = ⊥
-IsFault words (Configuration option) = AsksOutside words option
+IsFault words (Configuration option) = AskAmiss words (λ name rows. IsOutside name rows option)
 IsFault words NoMemory = Unit {0}
 
 -- what may be wrong with words that can't be read: one isn't text, or memory was refused
@@ -304,16 +308,9 @@ OrdersBy words (Err fault) = IsFault words fault
 
 -- the kind by which `clap` refuses options with a fault, which is none of its own if a number is outside its limits
 abbrev pub kind_of_fault : OptionFault → Option ErrorKind
+kind_of_fault (Breaks row text) = Some (rule_kind row.0)
 kind_of_fault (NoNumber name text) = Some ValueValidation
-kind_of_fault (NoProfile text) = Some ValueValidation
-kind_of_fault (NoRates text) = Some ValueValidation
 kind_of_fault (Missing name) = Some MissingRequiredArgument
-kind_of_fault (Lacking name) = Some MissingRequiredArgument
-kind_of_fault (Unwanted name flag) = Some ArgumentConflict
-kind_of_fault (OfLog flag) = Some ArgumentConflict
-kind_of_fault NoFullAlone = Some MissingRequiredArgument
-kind_of_fault (OfCurve fault) = Some (kind_of_curve_fault fault)
-kind_of_fault (Beside name other) = Some ArgumentConflict
 kind_of_fault (Outside option) = None
 
 -- what is said of options with a fault

@@ -1,5 +1,5 @@
 -- The options of `size`: of a script, of a heap that has room for programs, or of a share of the mutator.
-use Rattle.std.specs.Prelude.{◌≡◌, ◌⊎◌, ◌||◌, Bool, true, false, List, Some, None, codes, is_some, IsSome, IsSomeAnd}
+use Rattle.std.specs.Prelude.{◌≡◌, ◌||◌, Bool, false, List, Some, None, codes, is_some, IsSomeAnd}
 use Rattle.clap.specs.Words.{Row, Text, one_of}
 use Rattle.mh_command_line.specs.Rates.{rated_of, rates_in}
 use Rattle.mh_model.specs.declared.config.Rules.TheVariants.{Second}
@@ -11,7 +11,7 @@ use Rattle.mh_orders.specs.declared.room_options.RoomOptions.{RoomOptions}
 use Rattle.mh_orders.specs.declared.target_options.Given.{Given}
 use Rattle.mh_orders.specs.declared.target_options.Given.TheVariants.{Every, Nothing, Quantum}
 use Rattle.mh_orders.specs.declared.target_options.TargetOptions.{TargetOptions}
-use Rattle.mh_command_line.specs.Line.{HasNumber, number_or, optional_number, rules_chosen}
+use Rattle.mh_command_line.specs.Values.{HasNumber, number_or, optional_number, rules_chosen}
 
 -- Forms ------------------------------------------------------------------------------------------
 
@@ -23,18 +23,6 @@ is_given rows name = is_some (one_of name rows)
 abbrev pub has_heap : List Row → Bool
 has_heap rows =
     is_given rows (codes "used") || (is_given rows (codes "rate") || (is_given rows (codes "parts") || (is_given rows (codes "quanta") || (is_given rows (codes "every") || is_given rows (codes "quantum")))))
-
--- the names of those that a share has not, and of all
-abbrev pub IsCountOption : Text → Type 0
-IsCountOption name = (name ≡ codes "used") ⊎ (name ≡ codes "rate") ⊎ (name ≡ codes "parts") ⊎ (name ≡ codes "quanta")
-
-abbrev pub IsHeapOption : Text → Type 0
-IsHeapOption name = (name ≡ codes "every") ⊎ (name ≡ codes "quantum") ⊎ IsCountOption name
-
--- a heap is asked for: one of its options is given, and no target
-pub record IsOfHeap (rows : List Row) : Type 0 where
-  pub heap : has_heap rows ≡ true
-  pub target : one_of (codes "target") rows ≡ None
 
 -- none of the options is given that a share has not
 pub record HasNoCounts (rows : List Row) : Type 0 where
@@ -85,23 +73,3 @@ pub record AreTargetOptions (rows : List Row) (options : TargetOptions) : Type 0
   pub given : IsGivenBesideTarget rows options.given
   pub counts : HasNoCounts rows
   pub rules : one_of (codes "rules") rows ≡ None
-
--- Faults -----------------------------------------------------------------------------------------
-
--- an option that others want: a window with a target, a target with the window of a heap, and of a heap what is counted and how long cycles take
-pub data IsWanted (rows : List Row) (name : Text) : Type 0 where
-  ForTarget : name ≡ codes "window" → IsSome (one_of (codes "target") rows) → IsWanted rows name
-  ForWindow : name ≡ codes "target" → IsSome (one_of (codes "window") rows) → has_heap rows ≡ true → IsWanted rows name
-  ForHeap : (name ≡ codes "used") ⊎ (name ≡ codes "every") ⊎ (name ≡ codes "rate") → IsOfHeap rows → IsWanted rows name
-  ForCycles : name ≡ codes "quanta" → one_of (codes "quantum") rows ≡ None → IsOfHeap rows → IsWanted rows name
-
--- an option that is not to stand beside another: rules beside those of a heap or of a share, what is counted beside a target, and two numbers of which one is to be given
-pub data IsAlone (rows : List Row) (name other : Text) : Type 0 where
-  FromHeap : name ≡ codes "rules" → IsHeapOption other → IsAlone rows name other
-  FromTarget : (name ≡ codes "rules") ⊎ IsCountOption name → other ≡ codes "target" → IsAlone rows name other
-  FromQuantum : name ≡ codes "every" → other ≡ codes "quantum" → IsSome (one_of (codes "target") rows) → IsAlone rows name other
-  FromCycles : name ≡ codes "quanta" → other ≡ codes "quantum" → IsAlone rows name other
-
--- the text of the rates that are asked for has none
-abbrev pub LacksRates : List Row → Type 0
-LacksRates rows = IsSomeAnd (one_of (codes "rate") rows) (λ text. rates_in text ≡ None)

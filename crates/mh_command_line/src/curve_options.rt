@@ -1,149 +1,81 @@
 //! What the options of `curve` ask for: of which text the curve is drawn, as what, and what is promised of all its windows.
-//! `clap` proves the limits of its numbers. That a round has both its numbers, that a share can be read, and that the text
-//! is of one kind is looked at here.
 //!
 //! With `--history` and `--pauses`, `--rules` says nothing.
-ghost use Rattle.std.specs.Prelude.{◌≡◌, ◌≤◌, ◌<◌, ◌^◌, IfErr, IfOk, IfSome, Some, codes, option_map};
-ghost use Rattle.clap.specs.Words.{IsUnsignedIn, found_of, one_of, rows_of};
-ghost use Rattle.mh_command_line.specs.Curves.{AreCurveOptions, ArePromises, AsksKept, AsksRound, HasCurveFault, ReadsShare, asked_share, curve_form_of, shared_of};
-ghost use Rattle.mh_command_line.specs.Line.{AsksToCurve, HasFlag, optional_number};
-ghost use Rattle.mh_command_line.specs.Orders.{HasFewWorkers, HasFirstRules, HasOptionFault, IsOrder};
+ghost use Rattle.std.specs.Prelude.{◌≡◌, None, codes, false, is_some};
+ghost use Rattle.clap.specs.Words.{found_of, one_of, rows_of};
+ghost use Rattle.mh_command_line.specs.Curves.{AreCurveOptions, AsksKept, AsksRound};
+ghost use Rattle.mh_command_line.specs.Orders.{IsOrder, Takes, broken_rule};
+ghost use Rattle.mh_command_line.specs.Values.{lacks_share};
 
-use crate::options::{CurveFault, OptionFault, is_flagged, large_number, rules_asked};
+use crate::options::{is_flagged, large_number, rules_asked};
+use crate::share::AskedShare;
+use crate::table::MOST_OF_A_ROUND;
 use clap::ArgMatches;
 use mh_model::config::Rules;
 use mh_orders::curve::{CurveForm, CurveOptions};
 use mh_orders::order::Order;
 use mh_orders::promises::{Promises, Round, Share};
-use mh_text::pieces::split_at_byte;
-use mh_text::word::number;
-use std::str::FromStr;
-
-/// A share, as a word has it.
-#[derive(Clone, Copy)]
-pub(crate) struct AskedShare {
-    pub(crate) share: Share,
-}
-
-/// A text that is no share.
-#[derive(Clone, Copy)]
-pub(crate) struct NotShare;
-
-/// The share of `U:W`.
-fn share_in(text: &[u8]) -> Option<Share>
-    ensures { option_map shared_of result ≡ asked_share text.now }
-{
-    let (percent, from) = split_at_byte(text, b':')?;
-    if split_at_byte(from, b':').is_some() {
-        return None;
-    }
-    let percent = number(percent)?;
-    let from = number(from)?;
-    if percent > 100 {
-        return None;
-    }
-    Some(Share { percent, from })
-}
-
-impl FromStr for AskedShare {
-    type Err = NotShare;
-
-    ghost from_str_gives = { ReadsShare };
-
-    fn from_str(text: &str) -> Result<AskedShare, NotShare> {
-        match share_in(text.as_bytes()) {
-            Some(share) => Ok(AskedShare { share }),
-            None => Err(NotShare),
-        }
-    }
-}
 
 /// The rounds that are promised, if any are.
-fn round_asked<'a>(matches: &ArgMatches<'a>) -> Result<Option<Round>, CurveFault<'a>>
-    requires every { IfSome (one_of (codes "every") (rows_of (found_of matches.now))) (IsUnsignedIn 1 2305843009213693951) }
-    requires quantum { IfSome (one_of (codes "quantum") (rows_of (found_of matches.now))) (IsUnsignedIn 1 2305843009213693951) }
-    ensures round { IfOk result (AsksRound (rows_of (found_of matches.now))) }
-    ensures fault { IfErr result (HasCurveFault (rows_of (found_of matches.now))) }
+#[tactic(auto, using(crate::proofs::AskedLemmas::number_passes))]
+fn round_asked(matches: &ArgMatches<'_>) -> Option<Round>
+    requires takes { Takes (codes "curve") (rows_of (found_of matches.now)) }
+    requires both { is_some (one_of (codes "every") (rows_of (found_of matches.now))) ≡ is_some (one_of (codes "quantum") (rows_of (found_of matches.now))) }
+    ensures { AsksRound (rows_of (found_of matches.now)) result }
 {
-    let every = large_number(matches, "every");
-    let quantum = large_number(matches, "quantum");
+    let every = large_number(matches, "every", 1, MOST_OF_A_ROUND);
+    let quantum = large_number(matches, "quantum", 1, MOST_OF_A_ROUND);
     match (every, quantum) {
-        (None, None) => Ok(None),
-        (Some(every), Some(quantum)) => Ok(Some(Round { every, quantum })),
-        (Some(_), None) => Err(CurveFault::HalfARound("quantum")),
-        (None, Some(_)) => Err(CurveFault::HalfARound("every")),
+        (Some(every), Some(quantum)) => Some(Round { every, quantum }),
+        _ => None,
     }
 }
 
 /// The share that is promised, if one is.
-fn share_asked<'a>(matches: &ArgMatches<'a>) -> Result<Option<Share>, CurveFault<'a>>
-    ensures share { IfOk result (AsksKept (rows_of (found_of matches.now))) }
-    ensures fault { IfErr result (HasCurveFault (rows_of (found_of matches.now))) }
+fn share_asked(matches: &ArgMatches<'_>) -> Option<Share>
+    requires { lacks_share (codes "keeps") (rows_of (found_of matches.now)) ≡ false }
+    ensures { AsksKept (rows_of (found_of matches.now)) result }
 {
-    if let Some(asked) = matches.get_one::<AskedShare>("keeps") {
-        return Ok(Some(asked.share));
-    }
-    match matches.get_str("keeps") {
-        Some(text) => Err(CurveFault::NoShare(text)),
-        None => Ok(None),
-    }
-}
-
-/// What is promised of the trace.
-fn promises_asked<'a>(matches: &ArgMatches<'a>) -> Result<Promises, CurveFault<'a>>
-    requires { AsksToCurve (rows_of (found_of matches.now)) }
-    ensures promises { IfOk result (ArePromises (rows_of (found_of matches.now))) }
-    ensures fault { IfErr result (HasCurveFault (rows_of (found_of matches.now))) }
-{
-    Ok(Promises {
-        round: round_asked(matches)?,
-        longest: large_number(matches, "longest"),
-        share: share_asked(matches)?,
-    })
-}
-
-fn curve_form(matches: &ArgMatches<'_>) -> CurveForm
-    requires { HasFlag (codes "svg") (rows_of (found_of matches.now)) }
-    ensures { result ≡ curve_form_of (rows_of (found_of matches.now)) }
-{
-    if is_flagged(matches, "svg") {
-        CurveForm::Picture
-    } else {
-        CurveForm::Table
+    match matches.get_one::<AskedShare>("keeps") {
+        Some(asked) => Some(asked.share),
+        None => None,
     }
 }
 
 /// How a curve is to be drawn, and what is promised of its trace.
-fn options_asked<'a>(matches: &ArgMatches<'a>) -> Result<CurveOptions, OptionFault<'a>>
-    requires { AsksToCurve (rows_of (found_of matches.now)) }
-    ensures options { IfOk result (AreCurveOptions (rows_of (found_of matches.now))) }
-    ensures fault { IfErr result (HasOptionFault (codes "curve") (rows_of (found_of matches.now))) }
+#[tactic(auto, using(crate::proofs::AskedLemmas::number_passes, crate::proofs::AskedLemmas::both_of_round, crate::proofs::AskedLemmas::share_kept))]
+fn options_asked(matches: &ArgMatches<'_>) -> CurveOptions
+    requires takes { Takes (codes "curve") (rows_of (found_of matches.now)) }
+    requires meets { broken_rule (codes "curve") (rows_of (found_of matches.now)) ≡ None }
+    ensures { AreCurveOptions (rows_of (found_of matches.now)) result }
 {
-    match promises_asked(matches) {
-        Ok(promises) => Ok(CurveOptions {
-            form: curve_form(matches),
-            promises,
-        }),
-        Err(fault) => Err(OptionFault::OfCurve(fault)),
+    CurveOptions {
+        form: if is_flagged(matches, "svg") {
+            CurveForm::Picture
+        } else {
+            CurveForm::Table
+        },
+        promises: Promises {
+            round: round_asked(matches),
+            longest: large_number(matches, "longest", 0, u64::MAX),
+            share: share_asked(matches),
+        },
     }
 }
 
 /// Which curve is to be drawn.
-pub(crate) fn curve_asked<'a>(matches: &ArgMatches<'a>) -> Result<Order, OptionFault<'a>>
-    requires { AsksToCurve (rows_of (found_of matches.now)) }
-    ensures order { IfOk result (IsOrder (codes "curve") (rows_of (found_of matches.now))) }
-    ensures few { IfOk result HasFewWorkers }
-    ensures rules { IfOk result HasFirstRules }
-    ensures fault { IfErr result (HasOptionFault (codes "curve") (rows_of (found_of matches.now))) }
+#[tactic(auto, using(crate::proofs::AskedLemmas::number_passes, crate::proofs::AskedLemmas::no_pauses))]
+pub(crate) fn curve_asked(matches: &ArgMatches<'_>) -> Order
+    requires takes { Takes (codes "curve") (rows_of (found_of matches.now)) }
+    requires meets { broken_rule (codes "curve") (rows_of (found_of matches.now)) ≡ None }
+    ensures { IsOrder (codes "curve") (rows_of (found_of matches.now)) result }
 {
-    let options = options_asked(matches)?;
-    match (
-        is_flagged(matches, "history"),
-        is_flagged(matches, "pauses"),
-    ) {
-        (true, true) => Err(OptionFault::OfCurve(CurveFault::TwoKinds)),
-        (true, false) => Ok(Order::CurveHistory(options)),
-        (false, true) => Ok(Order::CurvePauses(options)),
-        (false, false) => Ok(Order::Curve(rules_asked(matches, Rules::Second), options)),
+    let options = options_asked(matches);
+    if is_flagged(matches, "history") {
+        return Order::CurveHistory(options);
     }
+    if is_flagged(matches, "pauses") {
+        return Order::CurvePauses(options);
+    }
+    Order::Curve(rules_asked(matches, Rules::Second), options)
 }

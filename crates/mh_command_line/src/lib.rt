@@ -4,9 +4,8 @@
 //! crates of texts take their options without loading `clap`.
 #![tactic(auto)]
 
-mod check_options;
+mod asked;
 mod command;
-mod curve;
 mod curve_options;
 pub mod fault;
 mod generate_options;
@@ -14,7 +13,8 @@ mod options;
 pub mod order;
 pub mod quoted;
 mod rates;
-mod size;
+mod share;
 mod size_options;
+mod table;
 pub mod version;
 pub mod words;

@@ -1,70 +1,206 @@
-//! What the options in the matches of `clap` say, and what is wrong with those that `clap` leaves open.
+//! What the options in the matches of `clap` say, each kind by one function, and the first rule of the table that they
+//! break.
 //!
 //! The program reads whether an option of a configuration is a number, since `clap`'s numbers end at 64 bits. A text
 //! that is none is refused in `clap`'s form and in the program's words. A number outside the limits, of any length,
 //! makes a bad configuration. Blamed is the first of pages, quantum and every that is outside, or else the trigger,
 //! whose limit is the number of pages.
 //!
-//! `--rules` is an option of `run`, `steps`, `cycles`, `show`, `curve`, `size`, `generate` and `check`. Without it a script is
-//! under the second rules. A history of version 1 is then under the first, as before there was such an option. `live` and
-//! `race` are under the second.
-//!
-ghost use Rattle.std.specs.Prelude.{◌≡◌, ◌<◌, ◌≤◌, ◌↔◌, None, Some, true, codes, IfOk, IfErr, IfSome, IsTrue};
+//! Without `--rules` a script is under the second rules. A history of version 1 is then under the first, as before there
+//! was such an option. `live` and `race` are under the second.
+ghost use Rattle.std.specs.Prelude.{◌≡◌, ◌<◌, ◌≤◌, ◌↔◌, codes, is_some, IfOk, IfErr, IfSome, IsSomeAnd, IsTrue, find};
 ghost use Rattle.std.specs.Char.{is_digit};
 ghost use Rattle.std.specs.List.{list_all};
 ghost use Rattle.std.specs.Str.Parse.{without_leading_plus};
 ghost use Rattle.clap.specs.Words.{IsUnsignedIn, found_of, one_of, rows_of};
-ghost use Rattle.mh_model.specs.declared.config.Rules.TheVariants.{Second};
-ghost use Rattle.mh_command_line.specs.Line.{AsksForFew, AsksForRange, AsksForRules, AsksToAnswer, AsksToRun, AsksToTell, HasFlag, HoldsNumber, IsConfigOption, IsNumber, ReadsNumber, is_flagged, number_or, optional_number, rules_given, rules_numbered, rules_chosen, workers_of};
-ghost use Rattle.mh_command_line.specs.Orders.{AreLiveOptions, AreRangeOptions, AreRunOptions, AreStepsOptions, HasFewWorkers, HasFirstRules, IsBlamed, IsNumberFault, IsOrder, MakesConfig};
+ghost use Rattle.mh_command_line.specs.Table.{rule_of_row};
+ghost use Rattle.mh_command_line.specs.Values.{HasNumber, HoldsNumber, IsConfigOption, IsNumber, ReadsNumber, breaks, is_flagged, is_given, lacks_profile, lacks_rates, lacks_share, optional_number, rules_chosen, rules_given, rules_numbered, workers_of};
+ghost use Rattle.mh_command_line.specs.Orders.{IsBlamed, IsNumberFault, MakesConfig};
 
+use crate::rates::AskedRates;
+use crate::share::AskedShare;
+use crate::table::{Kind, Rule, RuleRow};
 use clap::ArgMatches;
 use mh_model::config::{Config, Rules};
-use mh_model::limits::{LEAST_QUANTUM, MOST_EVERY, MOST_PAGES, MOST_QUANTUM};
-use mh_orders::order::{
-    ConfigOption, Form, LiveHeap, LiveOptions, Order, RunOptions, StepsOptions,
-};
-use mh_orders::range::RangeOptions;
-use mh_orders::steps::{Form as StepsForm, Steps};
+use mh_model::limits::{LEAST_QUANTUM, MOST_EVERY, MOST_PAGES, MOST_QUANTUM, MOST_WORKERS};
+use mh_orders::order::ConfigOption;
+use mh_orders::profile::Profile;
 use std::str::FromStr;
 
-/// What is wrong with the options of `curve`.
-#[derive(Clone, Copy)]
-pub(crate) enum CurveFault<'a> {
-    /// The text of `--keeps` is no share.
-    NoShare(&'a str),
-    /// The option of a round with this name is not given, and the other is.
-    HalfARound(&'static str),
-    /// `--history` and `--pauses` are both given.
-    TwoKinds,
-}
-
-/// Why the options of a configuration give none.
+/// Why options give no order.
 #[derive(Clone, Copy)]
 pub(crate) enum OptionFault<'a> {
+    /// This rule of the table is broken. The text is that of its first option.
+    Breaks(RuleRow, &'a str),
     /// The option with this name has a text that is no number.
     NoNumber(&'static str, &'a str),
-    /// The profile that is asked for is none.
-    NoProfile(&'a str),
-    /// The text of `--rate` has no rates.
-    NoRates(&'a str),
     /// The option with this name is not given.
     Missing(&'static str),
-    /// The option of `size` with this name is not given, which the others want.
-    Lacking(&'static str),
-    /// The option with the first name is given beside the flag with the second.
-    Unwanted(&'static str, &'static str),
-    /// The flag with this name is given beside `--log`.
-    OfLog(&'static str),
-    /// `--no-full` is given without `--sessions`.
-    NoFullAlone,
-    /// An option of `curve` is amiss.
-    OfCurve(CurveFault<'a>),
-    /// The option with this name is given beside another.
-    Beside(&'static str, &'static str),
     /// The number of this option is outside its limits.
     Outside(ConfigOption),
 }
+
+// Options of each kind ----------------------------------------------------------------------------
+
+/// Whether a flag is given.
+pub(crate) fn is_flagged(matches: &ArgMatches<'_>, name: &str) -> bool
+    ensures { result ≡ is_flagged name.now (rows_of (found_of matches.now)) }
+{
+    matches.get_one::<bool>(name).unwrap_or(false)
+}
+
+/// Whether an option with a value is given.
+pub(crate) fn has_text(matches: &ArgMatches<'_>, name: &str) -> bool
+    ensures { result ≡ is_some (one_of name.now (rows_of (found_of matches.now))) }
+{
+    matches.get_str(name).is_some()
+}
+
+/// The number of an option, within what its row says.
+pub(crate) fn large_number(
+    matches: &ArgMatches<'_>,
+    name: &str,
+    least: u64,
+    most: u64,
+) -> Option<u64>
+    requires { IfSome (one_of name.now (rows_of (found_of matches.now))) (IsUnsignedIn least most) }
+    ensures value { result ≡ optional_number name.now (rows_of (found_of matches.now)) }
+    ensures within { IfSome result (λ n. (least ≤ n) × (n ≤ most)) }
+{
+    matches.get_one::<u64>(name)
+}
+
+/// Such a number of 32 bits at most.
+pub(crate) fn number(matches: &ArgMatches<'_>, name: &str, least: u32, most: u32) -> Option<u32>
+    requires { IfSome (one_of name.now (rows_of (found_of matches.now))) (IsUnsignedIn least most) }
+    ensures value { result ≡ optional_number name.now (rows_of (found_of matches.now)) }
+    ensures within { IfSome result (λ n. (least ≤ n) × (n ≤ most)) }
+{
+    matches.get_one::<u32>(name)
+}
+
+/// The number of an option that is given.
+pub(crate) fn large_needed(matches: &ArgMatches<'_>, name: &str, least: u64, most: u64) -> u64
+    requires { IsSomeAnd (one_of name.now (rows_of (found_of matches.now))) (IsUnsignedIn least most) }
+    ensures { HasNumber (rows_of (found_of matches.now)) name.now result }
+{
+    large_number(matches, name, least, most).unwrap_or(least)
+}
+
+/// Such a number of 32 bits at most.
+pub(crate) fn needed(matches: &ArgMatches<'_>, name: &str, least: u32, most: u32) -> u32
+    requires { IsSomeAnd (one_of name.now (rows_of (found_of matches.now))) (IsUnsignedIn least most) }
+    ensures value { HasNumber (rows_of (found_of matches.now)) name.now result }
+    ensures within { (least ≤ result) × (result ≤ most) }
+{
+    number(matches, name, least, most).unwrap_or(least)
+}
+
+/// How many threads are to scan at a time at most.
+pub(crate) fn workers_asked(matches: &ArgMatches<'_>) -> usize
+    requires { IfSome (one_of (codes "workers") (rows_of (found_of matches.now))) (IsUnsignedIn 1 64) }
+    ensures value { result ≡ workers_of (rows_of (found_of matches.now)) }
+    ensures few { (0 < result) × (result ≤ 64) }
+{
+    large_number(matches, "workers", 1, MOST_WORKERS).unwrap_or(1) as usize
+}
+
+fn rules_numbered(number: u32) -> Rules
+    ensures { result ≡ rules_numbered number }
+{
+    if number == 1 {
+        Rules::First
+    } else {
+        Rules::Second
+    }
+}
+
+/// The rules that are asked for, if any are.
+pub(crate) fn rules_given(matches: &ArgMatches<'_>) -> Option<Rules>
+    requires { IfSome (one_of (codes "rules") (rows_of (found_of matches.now))) (IsUnsignedIn 1 2) }
+    ensures { result ≡ rules_given (rows_of (found_of matches.now)) }
+{
+    match number(matches, "rules", 1, 2) {
+        Some(number) => Some(rules_numbered(number)),
+        None => None,
+    }
+}
+
+/// The rules that are asked for, and these others if none are.
+pub(crate) fn rules_asked(matches: &ArgMatches<'_>, other: Rules) -> Rules
+    requires { IfSome (one_of (codes "rules") (rows_of (found_of matches.now))) (IsUnsignedIn 1 2) }
+    ensures { result ≡ rules_chosen other (rows_of (found_of matches.now)) }
+{
+    rules_given(matches).unwrap_or(other)
+}
+
+// Rules of the table ------------------------------------------------------------------------------
+
+/// Whether an option of this kind is given.
+fn is_given(matches: &ArgMatches<'_>, kind: Kind, name: &str) -> bool
+    ensures { result ≡ is_given kind name.now (rows_of (found_of matches.now)) }
+{
+    match kind {
+        Kind::Flag => is_flagged(matches, name),
+        Kind::Text => has_text(matches, name),
+        Kind::Number(_, _) => has_text(matches, name),
+        Kind::Needed(_, _) => has_text(matches, name),
+    }
+}
+
+/// Whether an option has a text that is no share.
+fn lacks_share(matches: &ArgMatches<'_>, name: &str) -> bool
+    ensures { result ≡ lacks_share name.now (rows_of (found_of matches.now)) }
+{
+    matches.try_get_one::<AskedShare>(name).is_err()
+}
+
+/// Whether an option has a text without rates.
+fn lacks_rates(matches: &ArgMatches<'_>, name: &str) -> bool
+    ensures { result ≡ lacks_rates name.now (rows_of (found_of matches.now)) }
+{
+    matches.try_get_one::<AskedRates>(name).is_err()
+}
+
+/// Whether an option has a text that names no profile.
+fn lacks_profile(matches: &ArgMatches<'_>, name: &str) -> bool
+    ensures { result ≡ lacks_profile name.now (rows_of (found_of matches.now)) }
+{
+    matches.try_get_one::<Profile>(name).is_err()
+}
+
+fn is_broken(matches: &ArgMatches<'_>, row: &RuleRow) -> bool
+    ensures { result ≡ breaks (rows_of (found_of matches.now)) (rule_of_row row.now) }
+{
+    let (rule, kind, name, other_kind, other, third) = *row;
+    let first = is_given(matches, kind, name);
+    let second = is_given(matches, other_kind, other);
+    match rule {
+        Rule::Wants => first && !second,
+        Rule::WantsWith => first && !second && has_text(matches, third),
+        Rule::WantsUnless => first && !second && !has_text(matches, third),
+        Rule::Beside => first && second,
+        Rule::BesideWith => first && second && has_text(matches, third),
+        Rule::Share => lacks_share(matches, name),
+        Rule::Rates => lacks_rates(matches, name),
+        Rule::Profile => lacks_profile(matches, name),
+    }
+}
+
+/// The first rule that is broken.
+#[tactic(auto, using(crate::proofs::ReadingLemmas::find_next, crate::proofs::ReadingLemmas::find_stop))]
+pub(crate) fn broken_rule(matches: &ArgMatches<'_>, rules: &[RuleRow]) -> Option<RuleRow>
+    ensures { result ≡ find (λ row. breaks (rows_of (found_of matches.now)) (rule_of_row row)) rules.now }
+{
+    for row in rules {
+        if is_broken(matches, row) {
+            return Some(*row);
+        }
+    }
+    None
+}
+
+// Configurations ----------------------------------------------------------------------------------
 
 /// A text that is no number.
 #[derive(Clone, Copy)]
@@ -113,86 +249,6 @@ fn is_number(text: &[u8]) -> bool
     !digits.is_empty() && are_digits(digits)
 }
 
-pub(crate) fn workers_asked(matches: &ArgMatches<'_>) -> usize
-    requires { AsksForFew (rows_of (found_of matches.now)) }
-    ensures value { result ≡ workers_of (rows_of (found_of matches.now)) }
-    ensures few { (0 < result) × (result ≤ 64) }
-{
-    matches.get_one::<usize>("workers").unwrap_or(1)
-}
-
-fn rules_numbered(number: u8) -> Rules
-    ensures { result ≡ rules_numbered number }
-{
-    if number == 1 {
-        Rules::First
-    } else {
-        Rules::Second
-    }
-}
-
-/// The rules that are asked for, if any are.
-pub(crate) fn rules_given(matches: &ArgMatches<'_>) -> Option<Rules>
-    requires { AsksForRules (rows_of (found_of matches.now)) }
-    ensures { result ≡ rules_given (rows_of (found_of matches.now)) }
-{
-    match matches.get_one::<u8>("rules") {
-        Some(number) => Some(rules_numbered(number)),
-        None => None,
-    }
-}
-
-/// The rules that are asked for, and these others if none are.
-pub(crate) fn rules_asked(matches: &ArgMatches<'_>, other: Rules) -> Rules
-    requires { AsksForRules (rows_of (found_of matches.now)) }
-    ensures { result ≡ rules_chosen other (rows_of (found_of matches.now)) }
-{
-    rules_given(matches).unwrap_or(other)
-}
-
-/// Whether a flag is given.
-pub(crate) fn is_flagged(matches: &ArgMatches<'_>, name: &str) -> bool
-    requires { HasFlag name.now (rows_of (found_of matches.now)) }
-    ensures { result ≡ is_flagged name.now (rows_of (found_of matches.now)) }
-{
-    matches.get_flag(name)
-}
-
-/// How a script is to be run.
-pub(crate) fn run_asked(matches: &ArgMatches<'_>) -> RunOptions
-    requires { AsksToRun (rows_of (found_of matches.now)) }
-    ensures options { AreRunOptions (rows_of (found_of matches.now)) result }
-    ensures few { (0 < result.workers) × (result.workers ≤ 64) }
-{
-    let form = if is_flagged(matches, "history") {
-        Form::History
-    } else {
-        Form::Replies
-    };
-    RunOptions {
-        workers: workers_asked(matches),
-        rules: rules_asked(matches, Rules::Second),
-        form,
-    }
-}
-
-/// How lines are to be answered.
-pub(crate) fn live_asked(matches: &ArgMatches<'_>) -> LiveOptions
-    requires { AsksToAnswer (rows_of (found_of matches.now)) }
-    ensures options { AreLiveOptions (rows_of (found_of matches.now)) result }
-    ensures few { (0 < result.workers) × (result.workers ≤ 64) }
-{
-    let heap = if is_flagged(matches, "world") {
-        LiveHeap::World
-    } else {
-        LiveHeap::Machine
-    };
-    LiveOptions {
-        workers: workers_asked(matches),
-        heap,
-    }
-}
-
 fn number_given<'a>(matches: &ArgMatches<'a>, name: &'static str) -> Result<u32, OptionFault<'a>>
     requires { IsConfigOption name.now }
     ensures number { IfOk result (HoldsNumber (rows_of (found_of matches.now)) name.now) }
@@ -237,73 +293,5 @@ pub(crate) fn config_given<'a>(
     match Config::under(rules, pages, quantum, trigger, every) {
         Some(config) => Ok(config),
         None => Err(OptionFault::Outside(outside(pages, quantum, every))),
-    }
-}
-
-/// The number of an option, if it is given.
-pub(crate) fn number(matches: &ArgMatches<'_>, name: &str) -> Option<u32>
-    requires { IfSome (one_of name.now (rows_of (found_of matches.now))) (IsUnsignedIn 0 4294967295) }
-    ensures { result ≡ optional_number name.now (rows_of (found_of matches.now)) }
-{
-    matches.get_one::<u32>(name)
-}
-
-/// A number of 64 bits, if it is given.
-pub(crate) fn large_number(matches: &ArgMatches<'_>, name: &str) -> Option<u64>
-    requires { IfSome (one_of name.now (rows_of (found_of matches.now))) (IsUnsignedIn 0 18446744073709551615) }
-    ensures { result ≡ optional_number name.now (rows_of (found_of matches.now)) }
-{
-    matches.get_one::<u64>(name)
-}
-
-/// The number of an option that may be left out, of 32 bits at most.
-pub(crate) fn number_or(matches: &ArgMatches<'_>, name: &str, other: u32) -> u32
-    requires { IfSome (one_of name.now (rows_of (found_of matches.now))) (IsUnsignedIn 0 4294967295) }
-    ensures { result ≡ number_or other name.now (rows_of (found_of matches.now)) }
-{
-    matches.get_one::<u32>(name).unwrap_or(other)
-}
-
-/// Which events of a run are to be written.
-pub(crate) fn range_asked(matches: &ArgMatches<'_>) -> RangeOptions
-    requires { AsksForRange (rows_of (found_of matches.now)) }
-    ensures { AreRangeOptions (rows_of (found_of matches.now)) result }
-{
-    let rules = rules_asked(matches, Rules::Second);
-    RangeOptions {
-        rules,
-        from: number_or(matches, "from", 1),
-        to: number_or(matches, "to", u32::MAX),
-    }
-}
-
-/// How the steps of a script are to be written.
-fn steps_asked(matches: &ArgMatches<'_>) -> StepsOptions
-    requires { AsksToTell (rows_of (found_of matches.now)) }
-    ensures { AreStepsOptions (rows_of (found_of matches.now)) result }
-{
-    let RangeOptions { rules, from, to } = range_asked(matches);
-    let form = if is_flagged(matches, "json") {
-        StepsForm::Json
-    } else {
-        StepsForm::Text
-    };
-    StepsOptions {
-        steps: Steps { form, from, to },
-        rules,
-    }
-}
-
-/// As what the steps of a script are to be written. With `--chrome`, `--json` says nothing.
-pub(crate) fn told_asked(matches: &ArgMatches<'_>) -> Order
-    requires { AsksToTell (rows_of (found_of matches.now)) }
-    ensures order { IsOrder (codes "steps") (rows_of (found_of matches.now)) result }
-    ensures few { HasFewWorkers result }
-    ensures rules { HasFirstRules result }
-{
-    if is_flagged(matches, "chrome") {
-        Order::Chrome(range_asked(matches))
-    } else {
-        Order::Steps(steps_asked(matches))
     }
 }

@@ -13,73 +13,112 @@
 //!
 //! Any command line may be answered with `NoMemory`. Each is read by a command that is built in memory, and `clap`'s
 //! contract doesn't say when it asks for that.
-ghost use Rattle.std.specs.Prelude.{◌≡◌, IfOk, IfErr, IsSomeAnd, Err, map};
+ghost use Rattle.std.specs.Prelude.{◌≡◌, IfOk, IfErr, IsSomeAnd, Err, find, map, option_map};
 ghost use Rattle.std.specs.String.{string_bytes};
+ghost use Rattle.std.specs.Str.{bytes_eq};
 ghost use Rattle.clap.specs.Words.{found_of, kind_of, rows_of, subcommand_rows_of};
 ghost use Rattle.clap.specs.declared.error.kind.ErrorKind.TheVariants.{ArgumentConflict, MissingRequiredArgument, ValueValidation};
-ghost use Rattle.mh_command_line.specs.Curves.{kind_of_curve_fault};
-ghost use Rattle.mh_command_line.specs.Line.{IsSubcommand, NamesOne};
-ghost use Rattle.mh_command_line.specs.Orders.{GivesOrder, HasFewWorkers, HasFirstRules, HasOptionFault, IsFault, IsOrder, IsSaidOfRefusal, RefusesOptions};
+ghost use Rattle.mh_command_line.specs.Orders.{Gives, GivesOrder, HasFewWorkers, HasFirstRules, HasOptionFault, IsFault, IsSaidOfRefusal, NamesOne, RefusesOptions, Takes, broken_rule, rule_kind};
+ghost use Rattle.mh_command_line.specs.Table.{rule_of_row, subcommand_of_row, table};
 
-use crate::check_options::check_asked;
-use crate::command::{command, command_of};
-use crate::curve_options::curve_asked;
+use crate::asked::order_named;
+use crate::command::{command, first_subcommands, last_subcommands, subcommand};
 use crate::fault::LineFault;
-use crate::generate_options::generate_asked;
-use crate::options::{
-    CurveFault, OptionFault, config_given, live_asked, range_asked, rules_asked, run_asked,
-    told_asked, workers_asked,
-};
+use crate::options::{OptionFault, broken_rule};
 use crate::quoted::{are_plain, quoted, quoted_words};
-use crate::size_options::size_asked;
-use clap::ArgMatches;
+use crate::table::{Rule, RuleRow, Subcommand};
 use clap::error::ErrorKind;
-use mh_model::config::Rules;
+use clap::{ArgMatches, Command};
 use mh_orders::order::Order;
-use mh_orders::profile::UnknownProfile;
 use std::alloc::{AllocError, Global};
 use std::convert::AsStr;
 
-fn order_named<'a>(name: &str, matches: &ArgMatches<'a>) -> Result<Order, OptionFault<'a>>
-    requires { IsSubcommand name.now (rows_of (found_of matches.now)) }
-    ensures order { IfOk result (IsOrder name.now (rows_of (found_of matches.now))) }
+fn is_row_of(row: &Subcommand, name: &str) -> bool
+    ensures { result ≡ bytes_eq row.now.0.now name.now }
+{
+    row.0 == name
+}
+
+#[tactic(auto, using(crate::proofs::ReadingLemmas::find_stop))]
+fn row_in(rows: &'static [Subcommand], name: &str) -> Option<&'static Subcommand>
+    ensures { option_map (λ row. row.now) result ≡ find (λ row. bytes_eq row.0.now name.now) rows.now }
+{
+    for row in rows {
+        if is_row_of(row, name) {
+            return Some(row);
+        }
+    }
+    None
+}
+
+fn row_among(rows: &'static [Subcommand], name: &str) -> Option<&'static Subcommand>
+    ensures { option_map (λ row. subcommand_of_row row.now) result ≡ find (λ row. bytes_eq row.0 name.now) (map subcommand_of_row rows.now) }
+{
+    row_in(rows, name)
+}
+
+/// The row of a subcommand.
+#[tactic(auto, using(crate::proofs::AskedLemmas::row_first, crate::proofs::AskedLemmas::row_last))]
+fn row_of(name: &str) -> Option<&'static Subcommand>
+    ensures { option_map (λ row. subcommand_of_row row.now) result ≡ find (λ row. bytes_eq row.0 name.now) table }
+{
+    match row_among(first_subcommands(), name) {
+        Some(row) => Some(row),
+        None => row_among(last_subcommands(), name),
+    }
+}
+
+/// The first rule of a subcommand that its options break.
+#[tactic(auto, using(crate::proofs::AskedLemmas::rule_found, crate::proofs::AskedLemmas::no_rule))]
+fn rule_broken(name: &str, matches: &ArgMatches<'_>) -> Option<RuleRow>
+    ensures { option_map rule_of_row result ≡ broken_rule name.now (rows_of (found_of matches.now)) }
+{
+    match row_of(name) {
+        Some(row) => broken_rule(matches, row.5),
+        None => None,
+    }
+}
+
+/// The order of what `clap` found for a subcommand.
+fn order_with<'a>(name: &str, matches: &ArgMatches<'a>) -> Result<Order, OptionFault<'a>>
+    requires { Takes name.now (rows_of (found_of matches.now)) }
+    ensures order { IfOk result (Gives name.now (rows_of (found_of matches.now))) }
     ensures few { IfOk result HasFewWorkers }
     ensures rules { IfOk result HasFirstRules }
     ensures fault { IfErr result (HasOptionFault name.now (rows_of (found_of matches.now))) }
 {
-    match name {
-        "run" => Ok(Order::Run(run_asked(matches))),
-        "steps" => Ok(told_asked(matches)),
-        "cycles" => Ok(Order::Cycles(rules_asked(matches, Rules::Second))),
-        "show" => Ok(Order::Show(range_asked(matches))),
-        "live" => Ok(Order::Live(live_asked(matches))),
-        "race" => Ok(Order::Race(workers_asked(matches))),
-        "check" => check_asked(matches),
-        "audit" => Ok(Order::Audit),
-        "curve" => curve_asked(matches),
-        "migrate" => Ok(Order::Migrate(config_given(matches, Rules::First)?)),
-        "size" => size_asked(matches),
-        "generate" => Ok(Order::Generate(generate_asked(matches)?)),
-        _ => unreachable!(),
+    match rule_broken(name, matches) {
+        Some(row) => Err(OptionFault::Breaks(row, matches.get_str(row.2).unwrap_or(""))),
+        None => order_named(name, matches),
     }
 }
 
 /// The order of what `clap` found.
 fn order_of<'a>(matches: &ArgMatches<'a>) -> Result<Order, OptionFault<'a>>
     requires { NamesOne (subcommand_rows_of matches.now) }
-    ensures order { IfOk result (λ order. IsSomeAnd (subcommand_rows_of matches.now) (λ subcommand. IsOrder subcommand.0 subcommand.1 order)) }
+    ensures order { IfOk result (λ order. IsSomeAnd (subcommand_rows_of matches.now) (λ subcommand. Gives subcommand.0 subcommand.1 order)) }
     ensures few { IfOk result HasFewWorkers }
     ensures rules { IfOk result HasFirstRules }
     ensures fault { IfErr result (λ fault. IsSomeAnd (subcommand_rows_of matches.now) (λ subcommand. HasOptionFault subcommand.0 subcommand.1 fault)) }
 {
     match matches.subcommand() {
-        Some((name, matches)) => order_named(name, matches),
+        Some((name, matches)) => order_with(name, matches),
         None => unreachable!(),
     }
 }
 
-/// `clap`'s refusal of options, with this kind of fault. It shows the usage of the subcommand if that is one whose options the
-/// program looks at itself, and else that of the program.
+/// The command of a subcommand by itself, or the whole.
+fn command_of<'a>(alloc: Global, name: Option<&str>) -> Result<Command<'a>, AllocError> {
+    if let Some(name) = name {
+        if let Some(row) = row_of(name) {
+            return subcommand(alloc, row);
+        }
+    }
+    command(alloc)
+}
+
+/// `clap`'s refusal of options, with this kind of fault. It shows the usage of the subcommand, if one is named, and else
+/// that of the program.
 fn refused(
     alloc: Global,
     subcommand: Option<&str>,
@@ -92,51 +131,7 @@ fn refused(
     command.error(kind, message)
 }
 
-/// `clap`'s refusal of an option that is no number.
-fn no_number(
-    alloc: Global,
-    subcommand: Option<&str>,
-    name: &str,
-    text: &str,
-) -> Result<clap::Error, AllocError>
-    ensures { IfOk result (λ error. kind_of error ≡ ValueValidation) }
-{
-    let text = quoted(alloc, text)?;
-    let message = format!(in alloc; "invalid value '{text}' for '--{name}': not a number")?;
-    refused(
-        alloc,
-        subcommand,
-        ErrorKind::ValueValidation,
-        message.as_str(),
-    )
-}
-
-/// `clap`'s refusal of a profile that is none.
-fn no_profile(
-    alloc: Global,
-    subcommand: Option<&str>,
-    text: &str,
-) -> Result<clap::Error, AllocError>
-    ensures { IfOk result (λ error. kind_of error ≡ ValueValidation) }
-{
-    let text = quoted(alloc, text)?;
-    let message = format!(in alloc; "invalid value '{text}' for '--profile': {UnknownProfile}")?;
-    refused(
-        alloc,
-        subcommand,
-        ErrorKind::ValueValidation,
-        message.as_str(),
-    )
-}
-
-/// What the text of `--rate` is to be.
-const RATES: &str =
-    "WORDS:PARTS/UNITS or WORDS:PARTS/UNITS+BURST with 4 to 64 words, each other number from 1 to 1000000, and each class once";
-
-/// What the text of `--keeps` is to be.
-const SHARE: &str = "U:W with 0 to 100 per cent and a number of units";
-
-/// `clap`'s refusal of rates or of a share that are none.
+/// `clap`'s refusal of a text that can't be read.
 fn unread(
     alloc: Global,
     subcommand: Option<&str>,
@@ -187,18 +182,20 @@ fn beside(
     )
 }
 
-/// `clap`'s refusal of the options of `curve`.
-fn refused_curve(
+/// `clap`'s refusal of options that break a rule.
+fn broken(
     alloc: Global,
     subcommand: Option<&str>,
-    fault: CurveFault<'_>,
+    row: RuleRow,
+    text: &str,
 ) -> Result<clap::Error, AllocError>
-    ensures { IfOk result (λ error. kind_of error ≡ kind_of_curve_fault fault.entry) }
+    ensures { IfOk result (λ error. kind_of error ≡ rule_kind row.entry.0) }
 {
-    match fault {
-        CurveFault::NoShare(text) => unread(alloc, subcommand, "keeps", text, SHARE),
-        CurveFault::HalfARound(name) => missing(alloc, subcommand, name),
-        CurveFault::TwoKinds => beside(alloc, subcommand, "pauses", "history"),
+    let (rule, _, name, _, other, _) = row;
+    match rule {
+        Rule::Wants | Rule::WantsWith | Rule::WantsUnless => missing(alloc, subcommand, other),
+        Rule::Beside | Rule::BesideWith => beside(alloc, subcommand, name, other),
+        Rule::Share | Rule::Rates | Rule::Profile => unread(alloc, subcommand, name, text, other),
     }
 }
 
@@ -206,17 +203,10 @@ fn refused_options(alloc: Global, subcommand: Option<&str>, fault: OptionFault<'
     ensures { RefusesOptions fault.entry result }
 {
     let refusal = match fault {
+        OptionFault::Breaks(row, text) => broken(alloc, subcommand, row, text),
+        OptionFault::NoNumber(name, text) => unread(alloc, subcommand, name, text, "a number"),
+        OptionFault::Missing(name) => missing(alloc, subcommand, name),
         OptionFault::Outside(option) => return LineFault::Configuration(option),
-        OptionFault::NoNumber(name, text) => no_number(alloc, subcommand, name, text),
-        OptionFault::NoProfile(text) => no_profile(alloc, subcommand, text),
-        OptionFault::NoRates(text) => unread(alloc, subcommand, "rate", text, RATES),
-        OptionFault::Missing(name) | OptionFault::Lacking(name) => missing(alloc, subcommand, name),
-        OptionFault::OfCurve(fault) => refused_curve(alloc, subcommand, fault),
-        OptionFault::NoFullAlone => missing(alloc, subcommand, "sessions"),
-        OptionFault::OfLog(name) => beside(alloc, subcommand, name, "log"),
-        OptionFault::Unwanted(name, other) | OptionFault::Beside(name, other) => beside(
-            alloc, subcommand, name, other,
-        ),
     };
     match refusal {
         Ok(error) => LineFault::Words(error),

@@ -1,249 +1,131 @@
-//! Which size is asked for, by the options of `size`. `clap` proves the limits of its numbers, and no rule between
-//! them. So which options go together is looked at here, and a refusal names the option that is missing or too many.
+//! Which size is asked for, by the options of `size`.
 //!
 //! A target asks for a share, and without one any option of a heap for that heap. If neither is given, a script is
-//! sized.
-ghost use Rattle.std.specs.Prelude.{◌≡◌, IfErr, IfOk, IfSome, IsSome, IsTrue, OnOk, None, codes, false, is_some};
-ghost use Rattle.clap.specs.Words.{IsUnsignedIn, found_of, one_of, rows_of};
-ghost use Rattle.mh_command_line.specs.Line.{AsksForRules, AsksToSize, HasNumber};
-ghost use Rattle.mh_command_line.specs.Orders.{HasFewWorkers, HasFirstRules, HasOptionFault, IsOrder};
-ghost use Rattle.mh_command_line.specs.Sizes.{AreRoomOptions, AreScriptOptions, AreTargetOptions, AsksCycles, AsksRates, HasNoCounts, IsAlone, IsGivenBesideTarget, IsHeapOption, IsOfHeap, IsWanted, has_heap, is_given};
+//! sized. Pages in use stand for the options of a heap, since each wants them.
+ghost use Rattle.std.specs.Prelude.{◌≡◌, IsTrue, IsSome, None, codes, false};
+ghost use Rattle.clap.specs.Words.{found_of, one_of, rows_of};
+ghost use Rattle.mh_command_line.specs.Orders.{IsOrder, Takes, broken_rule};
 ghost use Rattle.mh_orders.specs.Given.{is_given_within, is_length_within};
+ghost use Rattle.mh_command_line.specs.Sizes.{AreRoomOptions, AreScriptOptions, AreTargetOptions, AsksCycles, AsksRates, IsGivenBesideTarget};
 
-use crate::options::{OptionFault, large_number, number, number_or, rules_asked};
+use crate::options::{has_text, large_needed, large_number, needed, number, rules_asked};
 use crate::rates::AskedRates;
+use crate::table::{MOST_PARTS, MOST_QUANTA};
 use clap::ArgMatches;
 use mh_model::config::Rules;
+use mh_model::limits::{LEAST_QUANTUM, MOST_EVERY, MOST_PAGES, MOST_QUANTUM};
 use mh_orders::order::{Order, SizeOptions};
 use mh_orders::rates::Rates;
 use mh_orders::room_options::{CycleLength, RoomOptions};
 use mh_orders::target_options::{Given, Target, TargetOptions};
 
-/// The number of an option that is wanted if it is not given.
-fn needed<'a>(matches: &ArgMatches<'a>, name: &'static str) -> Result<u32, OptionFault<'a>>
-    requires number { IfSome (one_of name.now (rows_of (found_of matches.now))) (IsUnsignedIn 0 4294967295) }
-    requires wanted { IsWanted (rows_of (found_of matches.now)) name.now }
-    ensures number { IfOk result (HasNumber (rows_of (found_of matches.now)) name.now) }
-    ensures fault { IfErr result (HasOptionFault (codes "size") (rows_of (found_of matches.now))) }
-{
-    match number(matches, name) {
-        Some(number) => Ok(number),
-        None => Err(OptionFault::Lacking(name)),
-    }
-}
-
-/// An option that is not to stand beside another, which is given.
-fn not_beside<'a>(
-    matches: &ArgMatches<'a>,
-    name: &'static str,
-    other: &'static str,
-) -> Result<(), OptionFault<'a>>
-    requires apart { IsAlone (rows_of (found_of matches.now)) name.now other.now }
-    requires other { IsSome (one_of other.now (rows_of (found_of matches.now))) }
-    ensures none { OnOk result (one_of name.now (rows_of (found_of matches.now)) ≡ None) }
-    ensures fault { IfErr result (HasOptionFault (codes "size") (rows_of (found_of matches.now))) }
-{
-    match matches.get_str(name) {
-        None => Ok(()),
-        Some(_) => Err(OptionFault::Beside(name, other)),
-    }
-}
-
-fn is_given(matches: &ArgMatches<'_>, name: &str) -> bool
-    ensures { result ≡ is_given (rows_of (found_of matches.now)) name.now }
-{
-    matches.get_str(name).is_some()
-}
-
 /// How fast blocks are to be made.
-fn rates_asked<'a>(matches: &ArgMatches<'a>) -> Result<Rates, OptionFault<'a>>
-    requires { IsOfHeap (rows_of (found_of matches.now)) }
-    ensures rates { IfOk result (AsksRates (rows_of (found_of matches.now))) }
-    ensures fault { IfErr result (HasOptionFault (codes "size") (rows_of (found_of matches.now))) }
+fn rates_asked(matches: &ArgMatches<'_>) -> Rates
+    requires meets { broken_rule (codes "size") (rows_of (found_of matches.now)) ≡ None }
+    requires used { IsSome (one_of (codes "used") (rows_of (found_of matches.now))) }
+    ensures { AsksRates (rows_of (found_of matches.now)) result }
 {
-    if let Some(asked) = matches.get_one::<AskedRates>("rate") {
-        return Ok(asked.rates);
-    }
-    match matches.get_str("rate") {
-        Some(text) => Err(OptionFault::NoRates(text)),
-        None => Err(OptionFault::Lacking("rate")),
-    }
-}
-
-/// A heap is for no windows, which a target has.
-fn no_window<'a>(matches: &ArgMatches<'a>) -> Result<(), OptionFault<'a>>
-    requires { IsOfHeap (rows_of (found_of matches.now)) }
-    ensures none { OnOk result (one_of (codes "window") (rows_of (found_of matches.now)) ≡ None) }
-    ensures fault { IfErr result (HasOptionFault (codes "size") (rows_of (found_of matches.now))) }
-{
-    match matches.get_str("window") {
-        None => Ok(()),
-        Some(_) => Err(OptionFault::Lacking("target")),
+    match matches.get_one::<AskedRates>("rate") {
+        Some(asked) => asked.rates,
+        None => unreachable!(),
     }
 }
 
 /// How long cycles take.
-fn cycles_asked<'a>(matches: &ArgMatches<'a>) -> Result<CycleLength, OptionFault<'a>>
-    requires asks { AsksToSize (rows_of (found_of matches.now)) }
-    requires heap { IsOfHeap (rows_of (found_of matches.now)) }
-    ensures cycles { IfOk result (AsksCycles (rows_of (found_of matches.now))) }
-    ensures within { IfOk result (λ length. IsTrue (is_length_within length)) }
-    ensures fault { IfErr result (HasOptionFault (codes "size") (rows_of (found_of matches.now))) }
+#[tactic(auto, using(crate::proofs::AskedLemmas::number_passes, crate::proofs::AskedLemmas::given_passes, crate::proofs::AskedLemmas::quantum_of_heap, crate::proofs::AskedLemmas::no_quantum_of_heap))]
+fn cycles_asked(matches: &ArgMatches<'_>) -> CycleLength
+    requires takes { Takes (codes "size") (rows_of (found_of matches.now)) }
+    requires meets { broken_rule (codes "size") (rows_of (found_of matches.now)) ≡ None }
+    requires used { IsSome (one_of (codes "used") (rows_of (found_of matches.now))) }
+    ensures cycles { AsksCycles (rows_of (found_of matches.now)) result }
+    ensures within { IsTrue (is_length_within result) }
 {
-    match (number(matches, "quanta"), number(matches, "quantum")) {
-        (Some(quanta), None) => Ok(CycleLength::Quanta(quanta)),
-        (None, Some(quantum)) => Ok(CycleLength::Quantum(quantum)),
-        (Some(_), Some(_)) => Err(OptionFault::Beside("quanta", "quantum")),
-        (None, None) => Err(OptionFault::Lacking("quanta")),
+    if let Some(quanta) = number(matches, "quanta", 1, MOST_QUANTA) {
+        return CycleLength::Quanta(quanta);
     }
+    CycleLength::Quantum(needed(matches, "quantum", LEAST_QUANTUM, MOST_QUANTUM))
 }
 
 /// Which programs a heap is to have room for.
-fn room_asked<'a>(matches: &ArgMatches<'a>) -> Result<RoomOptions, OptionFault<'a>>
-    requires asks { AsksToSize (rows_of (found_of matches.now)) }
-    requires heap { IsOfHeap (rows_of (found_of matches.now)) }
-    requires rules { one_of (codes "rules") (rows_of (found_of matches.now)) ≡ None }
-    ensures options { IfOk result (AreRoomOptions (rows_of (found_of matches.now))) }
-    ensures fault { IfErr result (HasOptionFault (codes "size") (rows_of (found_of matches.now))) }
+#[tactic(auto, using(crate::proofs::AskedLemmas::number_passes, crate::proofs::AskedLemmas::given_passes, crate::proofs::AskedLemmas::every_of_heap, crate::proofs::AskedLemmas::window_of_heap, crate::proofs::AskedLemmas::rules_of_heap))]
+fn room_asked(matches: &ArgMatches<'_>) -> RoomOptions
+    requires takes { Takes (codes "size") (rows_of (found_of matches.now)) }
+    requires meets { broken_rule (codes "size") (rows_of (found_of matches.now)) ≡ None }
+    requires target { one_of (codes "target") (rows_of (found_of matches.now)) ≡ None }
+    requires used { IsSome (one_of (codes "used") (rows_of (found_of matches.now))) }
+    ensures { AreRoomOptions (rows_of (found_of matches.now)) result }
 {
-    no_window(matches)?;
-    let used = needed(matches, "used")?;
-    let every = needed(matches, "every")?;
-    let rates = rates_asked(matches)?;
-    let length = cycles_asked(matches)?;
-    let most_parts = number_or(matches, "parts", 1);
-    Ok(RoomOptions {
-        used,
-        every,
-        rates,
-        most_parts,
-        length,
-    })
-}
-
-/// The length of the windows of a target.
-fn window_asked<'a>(matches: &ArgMatches<'a>) -> Result<u64, OptionFault<'a>>
-    requires window { IfSome (one_of (codes "window") (rows_of (found_of matches.now))) (IsUnsignedIn 1 18446744073709551615) }
-    requires target { IsSome (one_of (codes "target") (rows_of (found_of matches.now))) }
-    ensures window { IfOk result (HasNumber (rows_of (found_of matches.now)) (codes "window")) }
-    ensures fault { IfErr result (HasOptionFault (codes "size") (rows_of (found_of matches.now))) }
-{
-    match large_number(matches, "window") {
-        Some(window) => Ok(window),
-        None => Err(OptionFault::Lacking("window")),
+    RoomOptions {
+        used: needed(matches, "used", 0, MOST_PAGES),
+        every: needed(matches, "every", 1, MOST_EVERY),
+        rates: rates_asked(matches),
+        most_parts: number(matches, "parts", 1, MOST_PARTS).unwrap_or(1),
+        length: cycles_asked(matches),
     }
 }
 
 /// What is given of a configuration that is to keep a target.
-fn given_asked<'a>(matches: &ArgMatches<'a>) -> Result<Given, OptionFault<'a>>
-    requires asks { AsksToSize (rows_of (found_of matches.now)) }
+#[tactic(auto, using(crate::proofs::AskedLemmas::number_passes, crate::proofs::AskedLemmas::one_of_target))]
+fn given_asked(matches: &ArgMatches<'_>) -> Given
+    requires takes { Takes (codes "size") (rows_of (found_of matches.now)) }
+    requires meets { broken_rule (codes "size") (rows_of (found_of matches.now)) ≡ None }
     requires target { IsSome (one_of (codes "target") (rows_of (found_of matches.now))) }
-    ensures given { IfOk result (IsGivenBesideTarget (rows_of (found_of matches.now))) }
-    ensures within { IfOk result (λ given. IsTrue (is_given_within given)) }
-    ensures fault { IfErr result (HasOptionFault (codes "size") (rows_of (found_of matches.now))) }
+    ensures given { IsGivenBesideTarget (rows_of (found_of matches.now)) result }
+    ensures within { IsTrue (is_given_within result) }
 {
-    match (number(matches, "every"), number(matches, "quantum")) {
-        (None, None) => Ok(Given::Nothing),
-        (Some(every), None) => Ok(Given::Every(every)),
-        (None, Some(quantum)) => Ok(Given::Quantum(quantum)),
-        (Some(_), Some(_)) => Err(OptionFault::Beside("every", "quantum")),
+    if let Some(every) = number(matches, "every", 1, MOST_EVERY) {
+        return Given::Every(every);
+    }
+    match number(matches, "quantum", LEAST_QUANTUM, MOST_QUANTUM) {
+        Some(quantum) => Given::Quantum(quantum),
+        None => Given::Nothing,
     }
 }
 
-/// Nothing that is counted of programs is to stand beside a target.
-fn no_counts<'a>(matches: &ArgMatches<'a>) -> Result<(), OptionFault<'a>>
-    requires { IsSome (one_of (codes "target") (rows_of (found_of matches.now))) }
-    ensures none { OnOk result (HasNoCounts (rows_of (found_of matches.now))) }
-    ensures fault { IfErr result (HasOptionFault (codes "size") (rows_of (found_of matches.now))) }
-{
-    not_beside(matches, "used", "target")?;
-    not_beside(matches, "rate", "target")?;
-    not_beside(matches, "parts", "target")?;
-    not_beside(matches, "quanta", "target")
-}
-
 /// Which share is to be kept.
-fn target_asked<'a>(
-    matches: &ArgMatches<'a>,
-    percent: u32,
-) -> Result<TargetOptions, OptionFault<'a>>
-    requires asks { AsksToSize (rows_of (found_of matches.now)) }
-    requires target { HasNumber (rows_of (found_of matches.now)) (codes "target") percent }
-    requires given { IsSome (one_of (codes "target") (rows_of (found_of matches.now))) }
-    ensures options { IfOk result (AreTargetOptions (rows_of (found_of matches.now))) }
-    ensures fault { IfErr result (HasOptionFault (codes "size") (rows_of (found_of matches.now))) }
+#[tactic(auto, using(crate::proofs::AskedLemmas::number_passes, crate::proofs::AskedLemmas::given_passes, crate::proofs::AskedLemmas::window_of_target, crate::proofs::AskedLemmas::counts_of_target, crate::proofs::AskedLemmas::rules_of_target))]
+fn target_asked(matches: &ArgMatches<'_>) -> TargetOptions
+    requires takes { Takes (codes "size") (rows_of (found_of matches.now)) }
+    requires meets { broken_rule (codes "size") (rows_of (found_of matches.now)) ≡ None }
+    requires target { IsSome (one_of (codes "target") (rows_of (found_of matches.now))) }
+    ensures { AreTargetOptions (rows_of (found_of matches.now)) result }
 {
-    not_beside(matches, "rules", "target")?;
-    no_counts(matches)?;
-    let window = window_asked(matches)?;
-    let target = Target { percent, window };
-    let given = given_asked(matches)?;
-    Ok(TargetOptions { target, given })
-}
-
-/// The first option of a heap that is given.
-fn heap_option(matches: &ArgMatches<'_>) -> Option<&'static str>
-    ensures has { is_some result ≡ has_heap (rows_of (found_of matches.now)) }
-    ensures named { IfSome result (λ name. IsHeapOption name.now) }
-    ensures given { IfSome result (λ name. IsSome (one_of name.now (rows_of (found_of matches.now)))) }
-{
-    if is_given(matches, "used") {
-        Some("used")
-    } else if is_given(matches, "rate") {
-        Some("rate")
-    } else if is_given(matches, "parts") {
-        Some("parts")
-    } else if is_given(matches, "quanta") {
-        Some("quanta")
-    } else if is_given(matches, "every") {
-        Some("every")
-    } else if is_given(matches, "quantum") {
-        Some("quantum")
-    } else {
-        None
+    TargetOptions {
+        target: Target {
+            percent: needed(matches, "target", 1, 100),
+            window: large_needed(matches, "window", 1, u64::MAX),
+        },
+        given: given_asked(matches),
     }
 }
 
 /// How a script is to be sized.
+#[tactic(auto, using(crate::proofs::AskedLemmas::number_passes, crate::proofs::AskedLemmas::no_heap))]
 fn script_asked(matches: &ArgMatches<'_>) -> SizeOptions
-    requires rules { AsksForRules (rows_of (found_of matches.now)) }
-    requires window { IfSome (one_of (codes "window") (rows_of (found_of matches.now))) (IsUnsignedIn 1 18446744073709551615) }
-    requires heap { has_heap (rows_of (found_of matches.now)) ≡ false }
+    requires takes { Takes (codes "size") (rows_of (found_of matches.now)) }
+    requires meets { broken_rule (codes "size") (rows_of (found_of matches.now)) ≡ None }
     requires target { one_of (codes "target") (rows_of (found_of matches.now)) ≡ None }
+    requires used { one_of (codes "used") (rows_of (found_of matches.now)) ≡ None }
     ensures { AreScriptOptions (rows_of (found_of matches.now)) result }
 {
     SizeOptions {
         rules: rules_asked(matches, Rules::Second),
-        window: large_number(matches, "window"),
+        window: large_number(matches, "window", 1, u64::MAX),
     }
-}
-
-/// Which heap is asked for, or a script's size.
-fn heap_asked<'a>(matches: &ArgMatches<'a>) -> Result<Order, OptionFault<'a>>
-    requires asks { AsksToSize (rows_of (found_of matches.now)) }
-    requires target { one_of (codes "target") (rows_of (found_of matches.now)) ≡ None }
-    ensures order { IfOk result (IsOrder (codes "size") (rows_of (found_of matches.now))) }
-    ensures few { IfOk result HasFewWorkers }
-    ensures rules { IfOk result HasFirstRules }
-    ensures fault { IfErr result (HasOptionFault (codes "size") (rows_of (found_of matches.now))) }
-{
-    let Some(other) = heap_option(matches) else {
-        return Ok(Order::SizeScript(script_asked(matches)));
-    };
-    not_beside(matches, "rules", other)?;
-    Ok(Order::SizeRoom(room_asked(matches)?))
 }
 
 /// Which size is asked for.
-pub(crate) fn size_asked<'a>(matches: &ArgMatches<'a>) -> Result<Order, OptionFault<'a>>
-    requires { AsksToSize (rows_of (found_of matches.now)) }
-    ensures order { IfOk result (IsOrder (codes "size") (rows_of (found_of matches.now))) }
-    ensures few { IfOk result HasFewWorkers }
-    ensures rules { IfOk result HasFirstRules }
-    ensures fault { IfErr result (HasOptionFault (codes "size") (rows_of (found_of matches.now))) }
+#[tactic(auto, using(crate::proofs::AskedLemmas::not_some))]
+pub(crate) fn size_asked(matches: &ArgMatches<'_>) -> Order
+    requires takes { Takes (codes "size") (rows_of (found_of matches.now)) }
+    requires meets { broken_rule (codes "size") (rows_of (found_of matches.now)) ≡ None }
+    ensures { IsOrder (codes "size") (rows_of (found_of matches.now)) result }
 {
-    match number(matches, "target") {
-        Some(percent) => Ok(Order::SizeTarget(target_asked(matches, percent)?)),
-        None => heap_asked(matches),
+    if has_text(matches, "target") {
+        return Order::SizeTarget(target_asked(matches));
     }
+    if has_text(matches, "used") {
+        return Order::SizeRoom(room_asked(matches));
+    }
+    Order::SizeScript(script_asked(matches))
 }

@@ -1,5 +1,5 @@
 -- The windows of a trace from its longest pause on, and their points and places one after another.
-use Rattle.std.proofs.Common.{◌≡◌, ◌≢◌, ◌∙◌, ◌==◌, ℕ, zero, suc, ◌+◌, ◌-◌, ◌<◌, ◌≤◌, Bool, true, false, max, min, nat_lt, if◌then◌else◌, List, [], ◌∷◌, ◌++◌, drop, take, length, get_or, ap, sym, refl, subst, add-one, drop-cons, append_assoc, arith}
+use Rattle.std.proofs.Common.{◌≡◌, ◌≢◌, ◌∙◌, ◌==◌, ℕ, zero, suc, ◌+◌, ◌-◌, ◌<◌, ◌≤◌, Bool, true, false, max, min, nat_lt, if◌then◌else◌, List, [], ◌∷◌, ◌++◌, drop, take, length, get_or, ap, sym, refl, subst, add-one, append_assoc, arith}
 use Rattle.std.specs.Prelude.{Option, Some}
 use Rattle.std.proofs.lemmas.Bool.Decides.{nat_tests}
 use Rattle.mh_model.specs.Bytes.{Text}
@@ -11,16 +11,12 @@ use Rattle.mh_windows.specs.Lowest.{IsLowest}
 use Rattle.mh_windows.specs.declared.always.Point.{Point}
 use Rattle.mh_windows.proofs.LowestLemmas.{lowest_is_least}
 use Rattle.std.proofs.lemmas.List.{length-drop, take_all}
-use Rattle.mh_curve.specs.declared.point.Point as curve
-use Rattle.mh_curve.specs.Places.{AddsPlace, ArePlaced, GoOn, drawn_point, drawn_points, windows_of_pauses}
+use Rattle.mh_curve.specs.Places.{AddsPlace, ArePlaced, GoOn, windows_of_pauses}
 use Rattle.mh_curve.specs.Points.{windows_from}
 use Rattle.mh_curve.specs.PauseTexts.{row_text, rows_text}
 use Rattle.mh_curve.proofs.WindowLemmas.{windows-last, windows-more}
 
 -- Windows ----------------------------------------------------------------------------------------
-
-pub pauses-none : (longest letters : ℕ) → letters ≡ 0 → windows_of_pauses longest letters ≡ []
-pauses-none longest letters none = rw none refl
 
 pub pauses-some : (longest letters : ℕ) → letters ≢ 0 → windows_of_pauses longest letters ≡ windows_from letters (max 1 longest) letters
 pauses-some longest letters some =
@@ -130,16 +126,6 @@ module _ (letters : List Letter) where
 -- what is left of points after some
 pub rest_of : (points : List Point) (i : ℕ) → i ≤ length points → take (length points - i) (drop i points) ≡ drop i points
 rest_of points i there = let long : length (drop i points) ≡ length points - i = length-drop i points in take_all (length points - i) (drop i points) (omega (arith, long))
-
--- one point more was drawn
-pub drawn_more : (round : Option Round) (points : List Point) (i : ℕ) (default : Point) (drawn drawn' : List curve.Point) → i < length points → drawn' ≡ drawn ++ drawn_point round (get_or points i default) ∷ []
-    → drawn ++ drawn_points round (drop i points) ≡ drawn_points round points → drawn' ++ drawn_points round (drop (i + 1) points) ≡ drawn_points round points
-drawn_more round points i default drawn drawn' there more is =
-    let point : Point = get_or points i default in
-    let split : drop i points ≡ point ∷ drop (suc i) points = drop-cons points i default there in
-    rw add-one
-    (ap (λ (ps : List curve.Point). ps ++ drawn_points round (drop (suc i) points)) more
-    ∙ (append_assoc drawn (drawn_point round point ∷ []) (drawn_points round (drop (suc i) points)) ∙ (ap (λ (ps : List Point). drawn ++ drawn_points round ps) (sym split) ∙ is)))
 
 -- Rows -------------------------------------------------------------------------------------------
 

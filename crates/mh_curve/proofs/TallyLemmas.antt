@@ -1,5 +1,5 @@
 -- The trace of the entries of a history, as they are read.
-use Rattle.std.proofs.Common.{◌≡◌, ◌∙◌, ℕ, ◌+◌, ◌≤◌, max, Bool, true, false, nat_lt, if◌then◌else◌, inr, List, [], ◌∷◌, ◌++◌, length, replicate, ap, sym, subst, refl, append-nil, arith}
+use Rattle.std.proofs.Common.{◌≡◌, ◌∙◌, ℕ, ◌+◌, max, Bool, true, false, nat_lt, if◌then◌else◌, inr, List, [], ◌∷◌, ◌++◌, length, replicate, ap, sym, subst, refl, append-nil, arith}
 use Rattle.std.specs.Prelude.{Result, Ok, Err, OnErr}
 use Rattle.std.proofs.lemmas.Bool.Decides.{nat_tests}
 use Rattle.std.proofs.lemmas.Grind.{flat_map-append}
@@ -43,14 +43,6 @@ trace_more entries measured old new is extends = record {
 pub tally_more : (entries : List Measured) (measured : Measured) (is_short : Bool) (old new : TraceState) → is_short ≡ true → Extends old measured.mutator measured.collector new → IsTraceIf is_short entries old
     → IsTraceIf is_short (entries ++ measured ∷ []) new
 tally_more entries measured is_short old new short extends is = rw short (trace_more entries measured old new (rw short at is) extends)
-
--- a trace that is too long with one entry more, or already without it
-pub long_with : (entries : List Measured) (measured : Measured) (trace : TraceState) → IsTraceOf entries trace → LIFE ≤ length trace.letters + (measured.mutator + measured.collector) → LIFE ≤ length (letters_of_entries (entries ++ measured ∷ []))
-long_with entries measured trace is long =
-    omega (arith, ap length (letters_of-more entries measured), length-append (letters_of_entries entries) (letters_of_entry measured), units_of-length measured, ap length is.letters)
-
-pub long_more : (entries : List Measured) (measured : Measured) → LIFE ≤ length (letters_of_entries entries) → LIFE ≤ length (letters_of_entries (entries ++ measured ∷ []))
-long_more entries measured long = omega (arith, ap length (letters_of-more entries measured), length-append (letters_of_entries entries) (letters_of_entry measured))
 
 -- entries were read, and this is their tally
 pub record HasTallied (old now : Lines) (kept : Tally) : Type 0 where

@@ -23,7 +23,7 @@ abbrev pub HasLetters : TextKind → Text → List Letter → Type 0
 HasLetters History text letters = (recorded : Recorded) × (short_reading (recorded_reading text) ≡ Means recorded) × (letters ≡ letters_of_entries recorded.entries)
 HasLetters Pauses text letters = pause_reading text ≡ Means letters
 
--- this is its first bad line. That a history has too many units is another matter
+-- the text has this first bad line. That a history has too many units is another matter
 abbrev pub IsBadLine : TextKind → Text → ℕ → Type 0
 IsBadLine History text line = recorded_reading text ≡ BadLine line
 IsBadLine Pauses text line = pause_reading text ≡ BadLine line

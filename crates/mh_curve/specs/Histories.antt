@@ -59,12 +59,12 @@ pub record IsTraceOf (entries : List Measured) (trace : TraceState) : Type 0 whe
   pub letters : trace.letters ≡ letters_of_entries entries
   pub greatest : trace.greatest ≡ greatest_spent entries
 
--- it is kept as long as it has fewer than 2 ^ 62 units
+-- a trace is that of some entries as long as it has fewer than 2 ^ 62 units
 abbrev pub IsTraceIf : Bool → List Measured → TraceState → Type 0
 IsTraceIf true entries trace = IsTraceOf entries trace
 IsTraceIf false entries trace = LIFE ≤ length (letters_of_entries entries)
 
--- the same of what a tally has
+-- the trace of a tally is that of some entries as long as it has fewer than 2 ^ 62 units
 abbrev pub IsTallyOf : List Measured → Tally → Type 0
 IsTallyOf entries tally = IsTraceIf tally.is_short entries tally.trace.trace
 

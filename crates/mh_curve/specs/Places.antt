@@ -18,7 +18,7 @@ ArePlaced letters [] [] [] = Unit {0}
 ArePlaced letters (window ∷ windows) (point ∷ points) (place ∷ places) = (point.window ≡ window) × IsLowest letters window point.least place × ArePlaced letters windows points places
 ArePlaced letters windows points places = ⊥
 
--- there are no points, or they go to the end of the trace
+-- no points, or points that go to the end of the trace
 abbrev pub GoOn : List Letter → List Point → Type 0
 GoOn letters [] = Unit {0}
 GoOn letters (point ∷ points) = GoToTheEnd letters (point ∷ points)
@@ -27,7 +27,7 @@ GoOn letters (point ∷ points) = GoToTheEnd letters (point ∷ points)
 abbrev pub floor_by : Option Round → ℕ → Option ℕ
 floor_by round window = option_map (λ r. floor r.every r.quantum window) round
 
--- the same points with their floors, as a picture has them
+-- a point with its floor, as a picture has it
 abbrev pub drawn_point : Option Round → Point → curve.Point
 drawn_point round point = record { window = point.window; least = point.least; floor = floor_by round point.window }
 

@@ -17,13 +17,13 @@ use Rattle.mh_curve.specs.declared.promises.ShortStretch.{ShortStretch}
 abbrev pub KeepsPauses : ℕ → List Letter → Type 0
 KeepsPauses most letters = (start units : ℕ) → start + units ≤ length letters → units_in letters start units ≡ 0 → units ≤ most
 
--- this pause is the longest, and longer than so much
+-- a pause that is the longest, and longer than so much
 pub record IsTooLong (most : ℕ) (letters : List Letter) (long : LongPause) : Type 0 where
   pub longest : IsLongest letters long.pause
   pub more : most < long.pause.units
   pub promised : long.promised ≡ most
 
--- this stretch is as long as a share is promised of, and has less
+-- a stretch that is as long as a share is promised of, and has less
 pub record LacksShare (share : Share) (letters : List Letter) (found : ShortStretch) : Type 0 where
   pub short : IsShort share.percent share.from letters found.stretch
   pub units : found.units ≡ units_in letters found.stretch.start (found.stretch.end - found.stretch.start)
@@ -42,12 +42,12 @@ abbrev pub JudgesShare : List Letter → Option Share → Option ShortStretch �
 JudgesShare letters None found = found ≡ None
 JudgesShare letters (Some share) found = MatchOption found (KeepsShare share.percent 100 share.from letters) (LacksShare share letters)
 
--- So much of what was promised of a trace isn't so
+-- What is broken of what was promised of a trace
 pub record IsJudged (promises : Promises) (letters : List Letter) (broken : Broken) : Type 0 where
   pub round : JudgesRound letters promises.round broken.floor
   pub pauses : JudgesPauses letters promises.longest broken.pause
   pub share : JudgesShare letters promises.share broken.stretch
 
--- and whether that is anything
+-- whether anything that was promised isn't so
 abbrev pub is_any_broken : Broken → Bool
 is_any_broken broken = is_some broken.floor || (is_some broken.pause || is_some broken.stretch)

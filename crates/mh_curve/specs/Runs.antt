@@ -50,7 +50,7 @@ curve_output form rules text = transcript (λ _. curve_run form) rules text
 abbrev pub IsJudgedRun : Promises → Config → List Event → Broken → Type 0
 IsJudgedRun promises config events broken = IsJudged promises (machine_after (first_machine config) events).trace.letters broken
 
--- the same once it was found
+-- what was found says what a run of these events breaks of promises
 abbrev pub IsFoundOfRun : Promises → Config → List Event → Option Broken → Type 0
 IsFoundOfRun promises config events found = IsSomeAnd found (IsJudgedRun promises config events)
 
@@ -85,7 +85,7 @@ pub record IsDrawingRun (options : CurveOptions) (rules : Rules) (source source'
 
 -- Histories and logs -----------------------------------------------------------------------------
 
--- so the curve of a text ends; a reason is true of the bad line
+-- how the curve of a text ends; a reason is true of the bad line
 abbrev pub EndsSo : TextKind → Promises → Text → CurveEnd → Type 0
 EndsSo kind promises text (Drawn broken) = IsJudgedText kind promises text broken
 EndsSo kind promises text (ScriptRefused refusal) = ⊥

@@ -43,7 +43,7 @@ abbrev pub step_text : ℕ → ℕ → ℕ → Text
 step_text count i share =
     decimal (place_x count i) ++ codes "," ++ decimal (place_y share) ++ codes " " ++ decimal (place_x count (i + 1)) ++ codes "," ++ decimal (place_y share) ++ codes " "
 
--- the same of a floor, if there is one
+-- the step of a floor over window i of so many, if there is a floor
 abbrev pub floor_step : ℕ → ℕ → ℕ → Option ℕ → Text
 floor_step count i window None = []
 floor_step count i window (Some floor) = step_text count i (share_of floor window)
@@ -62,12 +62,12 @@ part_text Share count i point = step_text count i (share_of point.least point.wi
 part_text Floor count i point = floor_step count i point.window point.floor
 part_text Tick count i point = tick_text count i point.window
 
--- and of points from point i of so many on
+-- what a part of a text has of points from point i of so many on
 abbrev pub parts_from : Part → ℕ → ℕ → List Point → Text
 parts_from part count i [] = []
 parts_from part count i (point ∷ points) = part_text part count i point ++ parts_from part count (suc i) points
 
--- and of all points
+-- what a part of a text has of all points
 abbrev pub parts_text : Part → List Point → Text
 parts_text part points = parts_from part (length points) 0 points
 

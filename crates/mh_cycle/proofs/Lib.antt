@@ -11,3 +11,4 @@ pub mod DefragLemmas
 pub mod DeedLemmas
 pub mod ToldLemmas
 pub mod OfGrey
+pub mod TellingLemmas

@@ -1,10 +1,11 @@
 //! The collector with its table and its roots: quanta, and the deletion barriers.
 //!
 //! A quantum is the model's, whatever the scanner answers: what it spends, at most the units configured, and what it
-//! leaves of each thing that the collector has. It is never refused. It keeps each world that is taken as the snapshot
-//! of the running cycle. One that ends the cycle leaves exactly the objects that the snapshot reached or that were born
-//! since, each with all its parts (`keeps`; `starts`, if the same quantum began it). One that starts a cycle starts it
-//! with what is reachable in the view at its entry (`starts`).
+//! leaves of each thing that the collector has. It tells its deeds to a log, and runs faster for one that keeps nothing
+//! (`told`). It is never refused. It keeps each world that is taken as the snapshot of the running cycle. One that ends
+//! the cycle leaves exactly the objects that the snapshot reached or that were born since, each with all its parts
+//! (`keeps`; `starts`, if the same quantum began it). One that starts a cycle starts it with what is reachable in the
+//! view at its entry (`starts`).
 //!
 //! When a cycle's defragmentation begins, no block is a forwarder. A quantum leaves a cycle ended only if it was
 //! entered in that defragmentation, or that defragmentation begins in it. So each forwarder that a cycle leaves was
@@ -31,6 +32,8 @@
 ghost use Rattle.std.specs.Prelude.{◌≡◌, ◌^◌, ◌<◌, ◌≤◌, true, IfOk, None, length};
 ghost use Rattle.mh_model.specs.Table.{references_at, forward_at};
 ghost use Rattle.mh_model.specs.Collector.{is_idle, quantum_start, quantum};
+ghost use Rattle.mh_model.specs.Deeds.{quantum_deeds};
+ghost use Rattle.mh_deeds.specs.Logs.{Told};
 ghost use Rattle.mh_model.specs.Mutator.{before_root, before_field};
 ghost use Rattle.mh_model.specs.Machine.{quanta_left};
 ghost use Rattle.mh_model.specs.Invariant.{IsSteady};
@@ -39,6 +42,7 @@ ghost use Rattle.mh_laws.specs.Forwarders.{MakesItsForwarders};
 ghost use Rattle.mh_cycle.specs.State.{state_with_collector, first_state};
 ghost use Rattle.mh_cycle.specs.Snapshots.{ContinuesEach, StartsFromTheView, KeepsEach, KeepsEachBehind};
 
+use mh_deeds::log::Log;
 use mh_laws::barriers::barriers_keep_the_snapshot;
 use mh_laws::fields::references_lead_on;
 use mh_laws::forwarders::quanta_make_their_forwarders;
@@ -168,8 +172,8 @@ impl Cycle {
 
     /// Runs a quantum: a cycle that is due starts, and while a cycle runs steps are taken whose cost fits in what is left
     /// of the configured units. A scanner is asked for what blocks refer to; whatever it answers, the quantum is the
-    /// same. Answers the units that it spent.
-    pub fn quantum<S: Scanner>(&mut self, scanner: &mut S) -> Spent
+    /// same. The log gets its deeds, unless it keeps nothing. Answers the units that it spent.
+    pub fn quantum<S: Scanner, L: Log>(&mut self, scanner: &mut S, log: &mut L) -> Spent
         requires steady { IsSteady self.old.collector }
         requires cycles { self.old.collector.cycle < 2 ^ 62 }
         requires quanta { self.old.collector.quanta < 2 ^ 62 }
@@ -180,18 +184,19 @@ impl Cycle {
         ensures keeps { ContinuesEach self.old.collector self.new.collector }
         ensures starts { StartsFromTheView self.old self.new.collector }
         ensures forwarders { MakesItsForwarders self.old.config self.old.collector self.new.collector }
+        ensures told { Told L.has log.old (quantum_deeds self.old.config self.old.collector) log.new }
     {
         collectors_stay_steady();
         quanta_keep_the_snapshot();
         cycles_start_from_the_view();
         quanta_make_their_forwarders();
-        self.begin();
+        self.begin_told(log);
         let most = u64::from(self.config.quantum);
         let mut left = most;
-        left -= self.scan_roots(left);
-        left -= self.mark(scanner, left);
-        left -= self.sweep(left);
-        left -= self.defragment(left);
+        left -= self.scan_roots(left, log);
+        left -= self.mark(scanner, left, log);
+        left -= self.sweep(left, log);
+        left -= self.defragment(left, log);
         Spent(most - left)
     }
 

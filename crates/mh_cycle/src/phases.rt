@@ -3,12 +3,16 @@
 //! steps is one stride.
 ghost use Rattle.std.specs.Prelude.{◌≡◌, ◌-◌, false};
 ghost use Rattle.mh_model.specs.declared.cycle.Phase.TheVariants.{Mark, Sweep, Defrag};
+ghost use Rattle.mh_model.specs.Deeds.{deeds_of_steps};
 ghost use Rattle.mh_model.specs.Invariant.{IsSteady};
 ghost use Rattle.mh_roots.specs.Roots.{SlotsLead};
 ghost use Rattle.mh_cycle.specs.State.{with_forwarded, forwarded_state};
+ghost use Rattle.mh_deeds.specs.Logs.{Told, Leads};
 ghost use Rattle.mh_cycle.specs.Advance.{IsFrom, IsMarkingTurn, IsAdvance, IsRest};
 
 use crate::cycle::Cycle;
+use crate::told::tell_phase;
+use mh_deeds::log::{Log, NoLog};
 use mh_laws::snapshots::collectors_stay_steady;
 use mh_mark::mh_scan::scan::Scanner;
 use mh_model::cycle::Phase;
@@ -28,10 +32,11 @@ struct Moves {
 
 impl Cycle {
     /// Scans roots while they fit in what is left. Answers what that cost.
-    pub(crate) fn scan_roots(&mut self, left: u64) -> u64
+    pub(crate) fn scan_roots<L: Log>(&mut self, left: u64, log: &mut L) -> u64
         requires steady { IsSteady self.old.collector }
         ensures advance { IsAdvance left self.old result false self.new }
         ensures from { IsFrom Mark (left - result) self.new.collector }
+        ensures told { Leads L.has log.old (deeds_of_steps left left false self.old.collector) log.new (deeds_of_steps (left - result) (left - result) false self.new.collector) }
     {
         collectors_stay_steady();
         let mut spent = 0;
@@ -39,18 +44,19 @@ impl Cycle {
             if left - spent < ROOT_COST {
                 break;
             }
-            self.roots_step();
+            self.root_told(log);
             spent += ROOT_COST;
         }
         spent
     }
 
     /// Marks blocks one after the other.
-    fn mark_alone(&mut self, left: u64) -> u64
+    fn mark_alone<L: Log>(&mut self, left: u64, log: &mut L) -> u64
         requires steady { IsSteady self.old.collector }
         requires from { IsFrom Mark left self.old.collector }
         ensures turn { IsMarkingTurn left self.old result self.new }
         ensures from { IsFrom Sweep (left - result) self.new.collector }
+        ensures told { Leads L.has log.old (deeds_of_steps left left false self.old.collector) log.new (deeds_of_steps (left - result) (left - result) false self.new.collector) }
     {
         collectors_stay_steady();
         let mut spent = 0;
@@ -60,7 +66,7 @@ impl Cycle {
             if left - spent < cost {
                 break;
             }
-            self.mark_step(first);
+            self.mark_step(first, log);
             spent += cost;
         }
         spent
@@ -76,7 +82,7 @@ impl Cycle {
         if scanner.pays(self.front_guess()) {
             self.mark_batch(scanner, left)
         } else {
-            self.mark_alone(left.min(TURN))
+            self.mark_alone(left.min(TURN), &mut NoLog)
         }
     }
 
@@ -99,26 +105,36 @@ impl Cycle {
     }
 
     /// Marks blocks while they fit in what is left. Answers what that cost.
-    pub(crate) fn mark<S: Scanner>(&mut self, scanner: &mut S, left: u64) -> u64
+    pub(crate) fn mark<S: Scanner, L: Log>(
+        &mut self,
+        scanner: &mut S,
+        left: u64,
+        log: &mut L,
+    ) -> u64
         requires steady { IsSteady self.old.collector }
         requires from { IsFrom Mark left self.old.collector }
         ensures advance { IsAdvance left self.old result false self.new }
         ensures from { IsFrom Sweep (left - result) self.new.collector }
+        ensures told { Leads L.has log.old (deeds_of_steps left left false self.old.collector) log.new (deeds_of_steps (left - result) (left - result) false self.new.collector) }
     {
         if scanner.is_alone() {
-            return self.mark_alone(left);
+            return self.mark_alone(left, log);
+        }
+        if !log.is_silent() {
+            return self.mark_alone(left, log);
         }
         let spent = self.mark_by_turns(scanner, left);
-        let rest = self.mark_alone(left - spent);
+        let rest = self.mark_alone(left - spent, log);
         spent + rest
     }
 
     /// Sweeps while steps fit in what is left. Answers what that cost.
-    pub(crate) fn sweep(&mut self, left: u64) -> u64
+    pub(crate) fn sweep<L: Log>(&mut self, left: u64, log: &mut L) -> u64
         requires steady { IsSteady self.old.collector }
         requires from { IsFrom Sweep left self.old.collector }
         ensures advance { IsAdvance left self.old result false self.new }
         ensures from { IsFrom Defrag (left - result) self.new.collector }
+        ensures told { Leads L.has log.old (deeds_of_steps left left false self.old.collector) log.new (deeds_of_steps (left - result) (left - result) false self.new.collector) }
     {
         collectors_stay_steady();
         let mut spent = 0;
@@ -126,37 +142,42 @@ impl Cycle {
             if spent == left {
                 break;
             }
-            spent += self.sweep_page(left - spent);
+            spent += self.sweep_some(left - spent, log);
         }
         spent
     }
 
     /// Moves blocks while steps fit in what is left. The slots stay as they were, since no step reads one: from each a hop
     /// at most leads to its object.
-    fn move_blocks(&mut self, left: u64) -> Moves
+    fn move_blocks<L: Log>(&mut self, left: u64, log: &mut L) -> Moves
         requires steady { IsSteady self.old.collector }
         requires from { IsFrom Defrag left self.old.collector }
         ensures rest { IsRest left self.old result.spent (forwarded_state self.new) }
         ensures still { result.has_moved ≡ false → with_forwarded self.new.collector ≡ self.new.collector }
         ensures lead { SlotsLead self.new.collector.table self.new.collector.slots }
+        ensures told { Told L.has log.old (deeds_of_steps left left false self.old.collector) log.new }
     {
         collectors_stay_steady();
         let mut spent = 0;
         let mut has_moved = false;
         while self.is_in(Phase::Defrag) {
-            let run = self.still_run(left - spent);
-            let count = run.count;
-            if count != 0 {
-                self.pass(run);
-                spent += count as u64;
-                continue;
+            if log.is_silent() {
+                let run = self.still_run(left - spent);
+                let count = run.count;
+                if count != 0 {
+                    self.pass(run);
+                    spent += count as u64;
+                    continue;
+                }
             }
             let target = self.next_target();
             let cost = self.move_cost(target, has_moved);
             if left - spent < cost {
                 break;
             }
+            self.tell_move(target, has_moved, log);
             self.defrag_step(target);
+            tell_phase(Phase::Defrag, self.phase, log);
             has_moved = has_moved || target.is_some();
             spent += cost;
         }
@@ -165,12 +186,13 @@ impl Cycle {
 
     /// Moves blocks while steps fit in what is left, and then forwards the slots, once for all moves. Answers what that
     /// cost.
-    pub(crate) fn defragment(&mut self, left: u64) -> u64
+    pub(crate) fn defragment<L: Log>(&mut self, left: u64, log: &mut L) -> u64
         requires steady { IsSteady self.old.collector }
         requires from { IsFrom Defrag left self.old.collector }
-        ensures { IsRest left self.old result self.new }
+        ensures rest { IsRest left self.old result self.new }
+        ensures told { Told L.has log.old (deeds_of_steps left left false self.old.collector) log.new }
     {
-        let moves = self.move_blocks(left);
+        let moves = self.move_blocks(left, log);
         if moves.has_moved {
             self.roots.forward_all(&self.blocks);
         }

@@ -1,15 +1,19 @@
 //! What a quantum does in one go: its start, and one step or some steps of a phase.
-ghost use Rattle.std.specs.Prelude.{◌≡◌, ◌+◌, ◌^◌, ◌<◌, ◌≤◌, ◌==◌, ℕ, Bool, true, if◌then◌else◌, Option, List, length};
+ghost use Rattle.std.specs.Prelude.{◌≡◌, ◌+◌, ◌-◌, ◌^◌, ◌<◌, ◌≤◌, ◌==◌, ℕ, Bool, true, false, if◌then◌else◌, Option, List, length};
 ghost use Rattle.mh_model.specs.declared.cycle.Phase.TheVariants.{Roots, Mark, Sweep, Defrag};
 ghost use Rattle.mh_model.specs.Collector.{is_idle, quantum_start, collector_step, step_cost};
+ghost use Rattle.mh_model.specs.Deeds.{deeds_in, step_deeds, deeds_of_steps, start_deeds};
 ghost use Rattle.mh_model.specs.Mutator.{in_roots, in_roots_or_mark};
 ghost use Rattle.mh_model.specs.Invariant.{IsSteady};
+ghost use Rattle.mh_deeds.specs.Logs.{Told, Leads};
 ghost use Rattle.mh_mark.specs.First.{IsFirstGrey};
 ghost use Rattle.mh_defrag.specs.Moves.{IsTarget, AreStill};
 ghost use Rattle.mh_cycle.specs.State.{state_with_collector, with_slots, step_beside_slots};
 ghost use Rattle.mh_cycle.specs.Advance.{IsStretch, IsStride};
 
 use crate::cycle::Cycle;
+use crate::told::{sweep_told, target_of, tell_phase, tell_slot};
+use mh_deeds::log::Log;
 use mh_defrag::defrag;
 use mh_defrag::defrag::Still;
 use mh_laws::batches::any_cut_into_batches_is_the_same;
@@ -19,6 +23,7 @@ use mh_mark::mark::{FirstGrey, first_grey, mark_step};
 use mh_mark::mh_grey::grey::Grey;
 use mh_mark::mh_scan::scan::Scanner;
 use mh_model::cycle::Phase;
+use mh_model::deed::{Deed, Edge};
 use mh_model::limits::ROOT_SLOTS;
 use mh_model::place::Place;
 use mh_sweep::sweep;
@@ -86,6 +91,24 @@ impl Cycle {
         }
     }
 
+    /// The same, and tells the start.
+    pub(crate) fn begin_told<L: Log>(&mut self, log: &mut L)
+        requires steady { IsSteady self.old.collector }
+        requires cycles { self.old.collector.cycle < 2 ^ 62 }
+        requires quanta { self.old.collector.quanta < 2 ^ 62 }
+        ensures begun { self.new ≡ state_with_collector self.old (quantum_start self.old.config self.old.collector) }
+        ensures told { Told L.has log.old (start_deeds self.old.config self.old.collector) log.new }
+    {
+        let before = self.number;
+        self.begin();
+        if self.number != before {
+            log.tell(Deed::Start { cycle: self.number });
+            log.tell(Deed::Enter {
+                phase: Phase::Roots,
+            });
+        }
+    }
+
     /// Shades what the next slot holds.
     pub(crate) fn roots_step(&mut self)
         requires phase { self.old.collector.phase ≡ Roots }
@@ -102,6 +125,32 @@ impl Cycle {
         }
     }
 
+    /// The same, and tells what it shaded, and the phase that it enters.
+    pub(crate) fn root_told<L: Log>(&mut self, log: &mut L)
+        requires phase { self.old.collector.phase ≡ Roots }
+        requires steady { IsSteady self.old.collector }
+        ensures after { self.new ≡ state_with_collector self.old (collector_step self.old.collector) }
+        ensures told { Told L.has log.old (step_deeds self.old.collector false) log.new }
+    {
+        if log.is_silent() {
+            self.roots_step();
+            return;
+        }
+        references_lead_on();
+        let slot = self.cursor;
+        let before = self.grey.len();
+        let mut edge = Edge {
+            reference: self.roots.get(slot),
+            target: None,
+            is_shaded: false,
+        };
+        edge.target = target_of(&self.blocks, edge.reference);
+        self.roots_step();
+        edge.is_shaded = before < self.grey.len();
+        log.tell(Deed::Root { slot, edge });
+        tell_phase(Phase::Roots, self.phase, log);
+    }
+
     /// The first grey block, and with it what marking through it costs.
     pub(crate) fn first_grey(&self) -> FirstGrey
         requires phase { self.now.collector.phase ≡ Mark }
@@ -115,17 +164,19 @@ impl Cycle {
     }
 
     /// Marks through the first grey block, which is given.
-    pub(crate) fn mark_step(&mut self, first: FirstGrey)
+    pub(crate) fn mark_step<L: Log>(&mut self, first: FirstGrey, log: &mut L)
         requires phase { self.old.collector.phase ≡ Mark }
         requires first { IsFirstGrey self.old.collector.table self.old.collector.grey first }
         requires steady { IsSteady self.old.collector }
-        ensures { self.new ≡ state_with_collector self.old (collector_step self.old.collector) }
+        ensures after { self.new ≡ state_with_collector self.old (collector_step self.old.collector) }
+        ensures told { Told L.has log.old (step_deeds self.old.collector false) log.new }
     {
         references_lead_on();
-        mark_step(&mut self.blocks, &mut self.grey, self.number, first);
+        mark_step(&mut self.blocks, &mut self.grey, self.number, first, log);
         self.grey.touch(&self.blocks, first.address, first.count);
         self.cursor = 0;
         self.phase = after_mark(&self.grey);
+        tell_phase(Phase::Mark, self.phase, log);
     }
 
     /// About what marking through the next front costs.
@@ -173,6 +224,48 @@ impl Cycle {
             self.phase = Phase::Defrag;
         }
         swept.count as u64
+    }
+
+    /// Sweeps one slot, or passes a free page, and tells it.
+    fn slot_told<L: Log>(&mut self, log: &mut L)
+        requires { self.old.collector.phase ≡ Sweep }
+        ensures after { self.new ≡ state_with_collector self.old (collector_step self.old.collector) }
+        ensures told { Told L.has log.old (deeds_in Sweep self.old.collector false) log.new }
+    {
+        let place = Place(self.cursor);
+        let end = sweep_told(&mut self.blocks, self.number, place, log);
+        self.cursor = end.0;
+        if end.page() >= self.blocks.len() {
+            self.cursor = 0;
+            self.phase = Phase::Defrag;
+        }
+    }
+
+    /// The same, and tells the phase that it enters.
+    fn sweep_told<L: Log>(&mut self, log: &mut L)
+        requires { self.old.collector.phase ≡ Sweep }
+        ensures after { self.new ≡ state_with_collector self.old (collector_step self.old.collector) }
+        ensures told { Told L.has log.old (step_deeds self.old.collector false) log.new }
+    {
+        self.slot_told(log);
+        tell_phase(Phase::Sweep, self.phase, log);
+    }
+
+    /// Sweeps slots of one page, as many as fit in what is left, or one slot if the log keeps deeds. Answers what that cost.
+    // One slot has a step of its own, since a second caller would keep `sweep_page` out of this loop.
+    pub(crate) fn sweep_some<L: Log>(&mut self, left: u64, log: &mut L) -> u64
+        requires phase { self.old.collector.phase ≡ Sweep }
+        requires some { 0 < left }
+        ensures state { self.new ≡ state_with_collector self.old self.new.collector }
+        ensures run { IsStretch left self.old.collector result self.new.collector }
+        ensures some { 0 < result }
+        ensures told { Leads L.has log.old (deeds_of_steps left left false self.old.collector) log.new (deeds_of_steps (left - result) (left - result) false self.new.collector) }
+    {
+        if log.is_silent() {
+            return self.sweep_page(left);
+        }
+        self.sweep_told(log);
+        1
     }
 
     /// The next steps of defragmentation that move no block, as many as fit in what is left.
@@ -234,5 +327,14 @@ impl Cycle {
             self.quanta = 0;
             self.phase = Phase::Idle;
         }
+    }
+
+    /// Tells what the next step of defragmentation does.
+    pub(crate) fn tell_move<L: Log>(&self, target: Option<Place>, has_moved: bool, log: &mut L)
+        requires phase { self.now.collector.phase ≡ Defrag }
+        requires target { IsTarget self.now.collector.table self.now.collector.cursor target }
+        ensures { Told L.has log.old (deeds_in Defrag self.now.collector has_moved) log.new }
+    {
+        tell_slot(&self.blocks, Place(self.cursor), target, has_moved, log);
     }
 }

@@ -94,10 +94,6 @@ abbrev pub Stay : Phase → List Deed → Type 0
 Stay phase [] = Unit {0}
 Stay phase (d ∷ deeds) = (phase_after_deed phase d ≡ phase) × Stay phase deeds
 
-pub stay-append : (phase : Phase) (xs ys : List Deed) → Stay phase xs → Stay phase ys → Stay phase (xs ++ ys)
-stay-append phase [] ys first second = second
-stay-append phase (d ∷ xs) ys (here, after) second = (here, stay-append phase xs ys after second)
-
 stay-idle : (phase : Phase) (deeds : List Deed) → is_idle phase ≡ false → Stay phase deeds → units_in Idle phase deeds ≡ 0
 stay-idle phase [] runs stay = refl
 stay-idle phase (d ∷ deeds) runs (here, after) = omega (arith, none phase runs, ap (λ p. units_in Idle p deeds) here, stay-idle phase deeds runs after)

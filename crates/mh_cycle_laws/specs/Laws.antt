@@ -1,10 +1,13 @@
--- The laws of cycles: their numbers add up.
-use Rattle.std.specs.Prelude.{◌≡◌, ◌+◌, ◌≤◌, List, length}
+-- The laws of cycles: their numbers add up, and so do the units of a quantum.
+use Rattle.std.specs.Prelude.{◌≡◌, ◌+◌, ◌<◌, ◌≤◌, List, length}
 use Rattle.std.specs.List.{AllByRecursion}
 use Rattle.mh_model.specs.declared.command.Event.{Event}
 use Rattle.mh_model.specs.declared.config.Config.{Config}
 use Rattle.mh_model.specs.declared.cycle.Phase.TheVariants.{Roots, Mark, Sweep, Defrag}
 use Rattle.mh_model.specs.Bound.{most_quanta}
+use Rattle.mh_model.specs.Collector.{Collector, quantum}
+use Rattle.mh_model.specs.Deeds.{units_of, quantum_deeds}
+use Rattle.mh_model.specs.Invariant.{IsSteady}
 use Rattle.mh_cycle_laws.specs.Cycles.{Cycle, cycles_of, quanta_in_cycle, makes, opens, frees, drops, empties, moves, units_before, mutator_units, collector_units, phase_units, counted, stat_before, stat_after}
 
 -- the numbers of a cycle add up: live blocks by those made and those freed, forwarders by those left and those dropped, free pages by those emptied and
@@ -20,3 +23,7 @@ pub record AddsUp (config : Config) (cycle : Cycle) : Type 0 where
 -- For every configuration and list of events, the numbers of each cycle add up, also of one that hasn't ended
 abbrev pub CyclesAddUp : Type 0
 CyclesAddUp = (config : Config) (events : List Event) → AllByRecursion (AddsUp config) (cycles_of config events)
+
+-- For every configuration and steady collector that has a grey block while it marks, the deeds of a quantum have as many units as it spends
+abbrev pub QuantaTellTheirUnits : Type 0
+QuantaTellTheirUnits = (config : Config) (collector : Collector) → IsSteady collector → (collector.phase ≡ Mark → 0 < length collector.grey) → units_of (quantum_deeds config collector) ≡ (quantum config collector).units

@@ -91,11 +91,6 @@ pub tally_all-append : (xs ys : List Deed) (tally : Tally) → tally_all tally (
 tally_all-append [] ys tally = refl
 tally_all-append (d ∷ xs) ys tally = tally_all-append xs ys (tally_with tally d)
 
--- a deed costs no more than all of them
-pub one-few : (deeds : List Deed) (before after : List Deed) (d : Deed) → deeds ≡ before ++ d ∷ after → deed_units d ≤ units_of deeds
-one-few deeds [] after d e = omega (arith, ap units_of e, sum_by-cons deed_units d after)
-one-few deeds (first ∷ before) after d e = omega (arith, ap units_of e, sum_by-cons deed_units first (before ++ d ∷ after), one-few (before ++ d ∷ after) before after d refl)
-
 -- Sums -------------------------------------------------------------------------------------------
 
 module _ (get : Counts → ℕ) (weight : Deed → ℕ) (one : (counts : Counts) (d : Deed) → get (counts_sum counts (counts_of d)) ≡ get counts + weight d) where

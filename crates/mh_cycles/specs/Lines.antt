@@ -91,7 +91,7 @@ abbrev pub times_text : ℕ → ℕ → Option Ending → Text
 times_text first at None = codes " events " ++ (decimal first ++ (codes " none at " ++ (decimal at ++ codes " none")))
 times_text first at (Some ending) = codes " events " ++ (decimal first ++ (codes " " ++ (decimal ending.event ++ (codes " at " ++ (decimal at ++ (codes " " ++ decimal ending.at))))))
 
--- which cycle, why it started, and when it ran
+-- the head of a line: the number of the cycle, why it started, and when it ran
 abbrev pub head_text : CycleLine → Text
 head_text line = (codes "cycle " ++ (decimal line.number ++ (codes " cause " ++ cause_word line.is_asked))) ++ times_text line.first line.at line.ending
 

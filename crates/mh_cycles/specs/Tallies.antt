@@ -169,7 +169,7 @@ watch_noted number watch event machine account =
     let starts = starts_between watch.stat stat in
     record { cycle = cycle_after watch.cycle starts (underway_from number watch machine account) account; is_asked = asked_after watch.is_asked event starts; stat = stat }
 
--- and once it is forgotten
+-- what is known once a cycle that has ended is forgotten
 abbrev pub watch_closed : Watch → Watch
 watch_closed watch = if is_idle watch.stat.phase then record watch { cycle = None } else watch
 

@@ -1,32 +1,28 @@
--- Deeds added to a log one after the other.
-use Rattle.std.proofs.Common.{◌≡◌, true, List, [], ◌++◌, refl, sym, ap, ◌∙◌, append_assoc, append-nil}
+-- Deeds told to a log that keeps them were added to it.
+use Rattle.std.proofs.Common.{◌≡◌, true, false, Bool, List, [], ◌∷◌, ◌++◌, length, refl, sym, ap, ◌∙◌, append_assoc, append-nil, arith}
+use Rattle.std.proofs.lemmas.Bool.{false≢true}
 use Rattle.mh_model.specs.declared.deed.Deed.{Deed}
+use Rattle.mh_model.specs.declared.deed.Deed.TheVariants.{End}
 use Rattle.mh_model.specs.Deeds.{DeedLog, Adds}
-
--- some of these deeds were added, and the rest is left
-pub record IsTelling (old : DeedLog) (all : List Deed) (now : DeedLog) (rest : List Deed) : Type 0 where
-  pub so_far : now.is_whole ≡ true → (old.is_whole ≡ true) × (now.deeds ++ rest ≡ old.deeds ++ all)
-
-pub telling-starts : (log : DeedLog) (all : List Deed) → IsTelling log all log all
-telling-starts log all = record { so_far = λ whole. (whole, refl) }
-
-pub telling-goes : (old now new : DeedLog) (all told rest : List Deed) → IsTelling old all now (told ++ rest) → Adds now told new → IsTelling old all new rest
-telling-goes old now new all told rest telling adds = record {
-  so_far = λ whole.
-      let (before, now_told) = adds whole in
-      let (first, so_far) = telling.so_far before in
-      (first, ap (λ deeds. deeds ++ rest) now_told ∙ append_assoc now.deeds told rest ∙ so_far);
-}
-
-pub telling-ends : (old now : DeedLog) (all rest : List Deed) → IsTelling old all now rest → rest ≡ [] → Adds old all now
-telling-ends old now all rest telling none whole =
-    let (first, so_far) = telling.so_far whole in
-    (first, sym (append-nil now.deeds) ∙ ap (λ deeds. now.deeds ++ deeds) (sym none) ∙ so_far)
+use Rattle.mh_deeds.specs.Logs.{Has, Told}
 
 pub adds-none : (log : DeedLog) → Adds log [] log
 adds-none log whole = (whole, sym (append-nil log.deeds))
 
 pub adds-then : (old now new : DeedLog) (first second : List Deed) → Adds old first now → Adds now second new → Adds old (first ++ second) new
-adds-then old now new first second a b = telling-ends old new (first ++ second) [] (telling-goes old now new (first ++ second) second [] (record {
-  so_far = λ whole. let (before, told) = a whole in (before, ap (λ deeds. deeds ++ (second ++ [])) told ∙ append_assoc old.deeds first (second ++ []) ∙ ap (λ deeds. old.deeds ++ (first ++ deeds)) (append-nil second));
-}) b) refl
+adds-then old now new first second a b whole =
+    let (so_far, then) = b whole in
+    let (before, told) = a so_far in
+    (before, then ∙ ap (λ deeds. deeds ++ second) told ∙ append_assoc old.deeds first second)
+
+-- a log that isn't whole has any deeds, so one that is whole after it would have one more than it has
+pub told-adds : (old new : DeedLog) (deeds : List Deed) → Told Has old deeds new → Adds old deeds new
+told-adds old new deeds told whole = (stays old.is_whole refl, told old.deeds (λ was. refl) whole)
+  where
+    stays : (was : Bool) → old.is_whole ≡ was → old.is_whole ≡ true
+    stays true is = is
+    stays false is =
+        let any : (before : List Deed) → Has before old = λ before first. absurd (false≢true (sym is ∙ first)) in
+        let none : length new.deeds ≡ length deeds = ap length (told [] (any []) whole) in
+        let one : length new.deeds ≡ length (End ∷ deeds) = ap length (told (End ∷ []) (any (End ∷ [])) whole) in
+        absurd (omega (arith, none, one))

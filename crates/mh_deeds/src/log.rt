@@ -1,13 +1,43 @@
 //! Deeds in the order in which they were done. Where memory is refused for one, the log says from then on that it isn't
 //! whole, until it is cleared.
-ghost use Rattle.std.specs.Prelude.{◌≡◌, [], ◌∷◌, ◌++◌, IfOk};
+ghost use Rattle.std.specs.Prelude.{◌≡◌, List, true, [], ◌∷◌, ◌++◌, IfOk};
+ghost use Rattle.mh_model.specs.declared.deed.Deed.{Deed};
 ghost use Rattle.mh_model.specs.Deeds.{Adds};
 ghost use Rattle.mh_deeds.specs.Accounts.{empty_log};
+ghost use Rattle.mh_deeds.specs.Logs.{Told};
 
 use mh_model::deed::Deed;
 use mh_model::memory::NoMemory;
 use std::alloc::Global;
 use std::marker::Model;
+
+/// What keeps deeds, or none of them.
+pub trait Log {
+    // It has exactly these deeds.
+    ghost has: { List Deed → Self → Type 0 };
+
+    /// Whether it keeps nothing: then it needn't be told.
+    fn is_silent(&self) -> bool
+        ensures { result ≡ true → (log : Self) (deeds : List Deed) → has deeds log };
+
+    /// Adds a deed.
+    fn tell(&mut self, deed: Deed)
+        ensures { Told has self.old (deed ∷ []) self.new };
+}
+
+/// Keeps nothing.
+#[derive(Clone, Copy)]
+pub struct NoLog;
+
+impl Log for NoLog {
+    ghost has = { λ _ _. Unit {0} };
+
+    fn is_silent(&self) -> bool {
+        true
+    }
+
+    fn tell(&mut self, _deed: Deed) {}
+}
 
 /// Deeds in order. Where memory is refused for one the log isn't whole from then on, and all goes on: a quantum never
 /// fails because it tells what it does.
@@ -75,5 +105,19 @@ impl Deeds {
         ensures { result ≡ self.now.is_whole }
     {
         self.is_whole
+    }
+}
+
+impl Log for Deeds {
+    ghost use Rattle.mh_deeds.specs.Logs.{Has};
+
+    ghost has = { Has };
+
+    fn is_silent(&self) -> bool {
+        false
+    }
+
+    fn tell(&mut self, deed: Deed) {
+        self.push(deed);
     }
 }

@@ -6,15 +6,11 @@ use Rattle.std.proofs.lemmas.Option.{none-some, same_Some}
 use Rattle.std.proofs.lemmas.Nat.Bits.{bit_at-zero, bit_at-trailing_zeros}
 use Rattle.std.proofs.lemmas.Nat.{shr-shr, shr_le}
 use Rattle.mh_model.specs.Classes.{slots_in}
-use Rattle.mh_model.specs.Pages.{Page, Table, page_number, slot_number, page_at, block_in, block_at, class_at, flag_at, least_dense_place, HaveTheirSlots}
-use Rattle.mh_model.specs.Table.{Block, is_forwarder}
-use Rattle.mh_model.specs.Collector.{Move, if_flagged, move_of, next_move, next_page, next_place, flagged_page}
+use Rattle.mh_model.specs.Pages.{Page, Table, page_number, slot_number, page_at, block_in, block_at, class_at, flag_at, HaveTheirSlots}
+use Rattle.mh_model.specs.Table.{Block}
+use Rattle.mh_model.specs.Collector.{if_flagged, move_of, next_move, next_page, next_place, flagged_page}
 use Rattle.mh_blocks.specs.OfBits.Bits.{has_bit}
 use Rattle.mh_defrag.specs.Moves.{AreUnflagged, AreStill, place_after}
-
--- No step is still
-pub none-still : (table : Table Block) (place : ℕ) → AreStill table place 0 place
-none-still table place = record { leads = refl; inside = λ k below. absurd (omega arith); stay = λ k below. absurd (omega arith) }
 
 -- Pages that are passed ----------------------------------------------------------------------------
 
@@ -69,29 +65,6 @@ empty-stays table place empty = go (page_at table (page_number place)) empty
         by_flag : (flag : Bool) → option_and_then (λ p. option_and_then (move_of table p) (block_in (slot_number place) p)) (if flag then Some page else None) ≡ None
         by_flag false = refl
         by_flag true = ap (option_and_then (move_of table page)) none
-
--- a block for which there is no room
-pub full-stays : (table : Table Block) (place size : ℕ) → class_at table (page_number place) ≡ Some size → least_dense_place table size ≡ None → next_move table place ≡ None
-full-stays table place size class full = go (page_at table (page_number place)) class
-  where
-    go : (page : Option (Page Block)) → option_map (λ p. p.class_size) page ≡ Some size → option_and_then (λ p. option_and_then (move_of table p) (block_in (slot_number place) p)) (option_and_then if_flagged page) ≡ None
-    go None of = refl
-    go (Some page) of = by_flag page.is_flagged
-      where
-        none : least_dense_place table page.class_size ≡ None
-        none = ap (least_dense_place table) (same_Some page.class_size size of) ∙ full
-
-        by_forward : (block : Block) (forwarder : Bool) → if◌then◌else◌ {A = Option Move} forwarder None (option_map (λ target. record { block = block; class_size = page.class_size; target = target }) (least_dense_place table page.class_size)) ≡ None
-        by_forward block true = refl
-        by_forward block false = ap (option_map (λ target. record { block = block; class_size = page.class_size; target = target })) none
-
-        by_block : (content : Option Block) → option_and_then (move_of table page) content ≡ None
-        by_block None = refl
-        by_block (Some block) = by_forward block (is_forwarder block)
-
-        by_flag : (flag : Bool) → option_and_then (λ p. option_and_then (move_of table p) (block_in (slot_number place) p)) (if flag then Some page else None) ≡ None
-        by_flag false = refl
-        by_flag true = by_block (block_in (slot_number place) page)
 
 -- the bits below the lowest of a word that was shifted
 bit-below : (word first k : ℕ) → word < 2 ^ 64 → k < trailing_zeros w64 (word / 2 ^ first) → has_bit word (first + k) ≡ false

@@ -12,7 +12,7 @@ use Rattle.mh_embed.specs.Drivers.{all_deeds}
 abbrev pub deeds_in : Bool → Account → Option (List Deed)
 deeds_in is_told account = if is_told && is_whole account then Some (all_deeds (account_in account)) else None
 
--- these are the counts of a machine's trace
+-- counts of a machine's trace
 pub record IsCounted (machine : Machine) (counts : Counts) : Type 0 where
   pub mutator : counts.mutator ≡ mutator_count machine.trace.letters
   pub collector : counts.collector ≡ collector_count machine.trace.letters

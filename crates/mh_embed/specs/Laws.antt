@@ -23,7 +23,7 @@ use Rattle.mh_embed.specs.Endings.{AnswerEnds, ForgetEnds, JudgeEnds, LineEnds, 
 use Rattle.mh_embed.specs.Numbers.{event_numbered}
 use Rattle.mh_embed.specs.Promised.{AreCalls, IsDrivenAsPromised, IsOneCall}
 
--- the same machine or world, between two lines, when these names were seen
+-- the state of a run line by line that drives this machine or world, between two lines, when these names were seen
 abbrev pub live_with : List Text → Driver → Live
 live_with names (Collects collected) = Runs collected.machine.machine names collected.machine.done
 live_with names (Grows grown) = model.Grows grown.world names grown.done

@@ -35,7 +35,7 @@ pub data AreCalls (first : Driven) : List Event → List Reply → Driven → Ty
   Opened : AreCalls first [] [] first
   Called : (events : List Event) (replies : List Reply) (more : List Event) (given : List Reply) (old new : Driven) → AreCalls first events replies old → IsCall old new more given → AreCalls first (events ++ more) (replies ++ given) new
 
--- these replies to the events are a machine's, but that a report may be of an end of its trace. It keeps the promise of the configuration then too
+-- replies to events that are a machine's, but that a report may be of an end of its trace; then too it keeps the promise of the configuration
 pub data AreRecalled (config : Config) : Machine → List Event → List Reply → Type 0 where
   NoneYet : (machine : Machine) → AreRecalled config machine [] []
   Same : (machine : Machine) (event : Event) (events : List Event) (replies : List Reply) → AreRecalled config (event_step machine event).state events replies
@@ -44,7 +44,7 @@ pub data AreRecalled (config : Config) : Machine → List Event → List Reply �
       → AreRecalled config (event_step machine (event.Control (control.Report window))).state events replies
       → AreRecalled config machine (event.Control (control.Report window) ∷ events) (reply.Report (report_on config end window) ∷ replies)
 
--- These events were done and given these replies, and this is driven then. It is the machine after them, but that it may have forgotten how its trace
+-- Events were done and given replies, and this is driven after them. It is the machine after these events, but that it may have forgotten how its trace
 -- begins, so its heap is that machine's. The replies are the machine's, but for reports, and those of an outcome that keeps the promise
 pub record IsDrivenAsPromised (config : Config) (events : List Event) (replies : List Reply) (driven : Driven) : Type 0 where
   pub collected : Collected

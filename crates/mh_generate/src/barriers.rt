@@ -64,7 +64,7 @@ const HIDE: &[Step] = &[
     Clear(HELD),
 ];
 
-/// The same, and it is cut before it is stored, over another.
+/// A reference is loaded, cut where it was, and then stored elsewhere over another.
 const HIDE_CUT: &[Step] = &[
     Begin(TARGET),
     Begin(SOURCE),
@@ -96,7 +96,7 @@ const HOLD: &[Step] = &[
     Clear(HELD),
 ];
 
-/// The same, with a fresh object in the place of the other.
+/// A reference is loaded and cut, a slot alone holds its object for a while, and a fresh object stands in the place of the other.
 const HOLD_FRESH: &[Step] = &[
     Begin(SOURCE),
     Load(HELD, SOURCE),
@@ -219,7 +219,7 @@ const WALK: &[Step] = &[
     Touch(1, Shape),
 ];
 
-/// The same, where there is no slot behind it.
+/// The object in a slot is left for one to which it leads, which is read, where there is no slot behind it.
 const WALK_ON: &[Step] = &[Load(0, 0), Touch(0, ReadFirst), Touch(0, ReadLast)];
 
 const STOP: &[Step] = &[Clear(0)];

@@ -33,10 +33,6 @@ module _ (table : Table Block) (place : ℕ) (block : Block) (there : block_at t
   pub changed_nothing : (change : Block → Block) → change block ≡ block → with_block_change table place change ≡ table
   changed_nothing change same = ap (with_block table place) (ap (option_map change) there ∙ ap Some same ∙ sym there) ∙ with_block-self table place
 
-mapped-some : (change : Block → Block) (content : Option Block) → IsSome content → IsSome (option_map change content)
-mapped-some change None is = is
-mapped-some change (Some block) is = refl
-
 -- a block is changed if one is, and each other stays
 pub changed-there : (table : Table Block) (place other : ℕ) (change : Block → Block) → IsSome (block_at table other) → IsSome (block_at (with_block_change table place change) other)
 changed-there table place other change is = elim (cases_eq other place) [

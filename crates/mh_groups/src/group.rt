@@ -11,13 +11,13 @@
 //! its parts are kept there while the object is made. So it can be undone from the last part to the first, each with
 //! the page that it took, and no memory is asked for. The parts are linked after all of them were made, as the
 //! definition does.
-ghost use Rattle.std.specs.Prelude.{◌≡◌, ◌<◌, ◌≤◌, ◌^◌, ◌&&◌, ℕ, nat_lt, true, List, IsSome, IfOk, OnOk, OnErr, Some, None, length, get_or, map, take, [], ◌∷◌};
-ghost use Rattle.mh_model.specs.declared.deed.Deed.{Deed};
-ghost use Rattle.mh_model.specs.Deeds.{make_deeds, Adds};
+ghost use Rattle.std.specs.Prelude.{◌≡◌, ◌<◌, ◌≤◌, ◌^◌, ◌&&◌, ℕ, nat_lt, true, IsSome, IfOk, OnOk, OnErr, Some, None, length, get_or, map, take, [], ◌∷◌};
+ghost use Rattle.mh_model.specs.Deeds.{make_deeds};
 ghost use Rattle.mh_model.specs.Pages.{page_number, block_at};
 ghost use Rattle.mh_model.specs.Table.{references_at, with_block_change, made_parts, linked_parts, made_group};
 ghost use Rattle.mh_blocks.specs.OfClasses.Fits.{AreParts};
 ghost use Rattle.mh_blocks.specs.OfPages.FreePlaces.{free_places};
+ghost use Rattle.mh_deeds.specs.Logs.{Told};
 ghost use Rattle.mh_groups.specs.Making.{HaveTheirChildren, without_parts, AllCanBeUnmade, AreUnlinked};
 ghost use Rattle.mh_groups.specs.Placed.{tier_at, part_deed, placed_deeds};
 ghost use Rattle.mh_groups.specs.Room.{full_count};
@@ -25,7 +25,8 @@ ghost use Rattle.mh_groups.specs.Room.{full_count};
 use mh_blocks::blocks::{Blocks, Full};
 use mh_blocks::mh_classes::class::Class;
 use mh_blocks::mh_classes::parts::{Part, Parts};
-use mh_deeds::log::Deeds;
+use mh_deeds::log::Log;
+pub use mh_deeds::log::NoLog;
 use mh_model::birth::Birth;
 use mh_model::deed::{Deed, PartName, Tier};
 use mh_model::limits::{MOST_PARTS, RUN};
@@ -181,15 +182,15 @@ fn tier_at(blocks: &Blocks, place: Place, is_fresh: bool) -> Tier
 }
 
 /// Tells that a part was placed.
-fn tell_part(deeds: &mut Deeds, name: PartName, part: Part, place: Place, tier: Tier)
-    ensures { Adds deeds.old (part_deed name.birth name.part part place tier ∷ []) deeds.new }
+fn tell_part<L: Log>(log: &mut L, name: PartName, part: Part, place: Place, tier: Tier)
+    ensures { Told L.has log.old (part_deed name.birth name.part part place tier ∷ []) log.new }
 {
     let class_size = part.class().size();
     let fields = Shape {
         references: part.references() as u32,
         numbers: part.numbers() as u32,
     };
-    deeds.push(Deed::Make {
+    log.tell(Deed::Make {
         place,
         name,
         class_size,
@@ -199,96 +200,32 @@ fn tell_part(deeds: &mut Deeds, name: PartName, part: Part, place: Place, tier: 
 }
 
 /// Tells where all parts were placed, in order.
-fn tell_parts(
+fn tell_parts<L: Log>(
     blocks: &Blocks,
     places: &[Place],
     fresh: &[bool],
     parts: &Parts,
     birth: Birth,
-    deeds: &mut Deeds,
+    log: &mut L,
 )
     requires places { length parts.now ≤ length places.now }
     requires fresh { length parts.now ≤ length fresh.now }
     requires there { (number : ℕ) → number < length parts.now → IsSome (block_at blocks.now (get_or places.now number 0)) }
-    ensures { Adds deeds.old (placed_deeds blocks.now birth places.now fresh.now 0 parts.now) deeds.new }
+    ensures { Told L.has log.old (placed_deeds blocks.now birth places.now fresh.now 0 parts.now) log.new }
 {
     let count = parts.count();
     for index in 0..count {
         let name = PartName { birth, part: index };
         let place = places[index];
         let tier = tier_at(blocks, place, fresh[index]);
-        tell_part(deeds, name, parts.get(index), place, tier);
+        tell_part(log, name, parts.get(index), place, tier);
     }
-}
-
-/// What keeps where the parts of a new object were placed.
-pub trait PartLog {
-    // These deeds were added.
-    ghost adds: { Self → List Deed → Self → Type 0 };
-
-    /// Whether it keeps nothing: then it needn't be told.
-    fn is_silent(&self) -> bool
-        ensures { result ≡ true → (deeds : List Deed) → adds self.now deeds self.now };
-
-    /// Adds where all parts were placed, in order.
-    fn add_parts(
-        &mut self,
-        blocks: &Blocks,
-        places: &[Place],
-        fresh: &[bool],
-        parts: &Parts,
-        birth: Birth,
-    )
-        requires places { length parts.now ≤ length places.now }
-        requires fresh { length parts.now ≤ length fresh.now }
-        requires there { (number : ℕ) → number < length parts.now → IsSome (block_at blocks.now (get_or places.now number 0)) }
-        ensures { adds self.old (placed_deeds blocks.now birth places.now fresh.now 0 parts.now) self.new };
-}
-
-impl PartLog for Deeds {
-    ghost adds = { Adds };
-
-    fn is_silent(&self) -> bool {
-        false
-    }
-
-    fn add_parts(
-        &mut self,
-        blocks: &Blocks,
-        places: &[Place],
-        fresh: &[bool],
-        parts: &Parts,
-        birth: Birth,
-    ) {
-        tell_parts(blocks, places, fresh, parts, birth, self);
-    }
-}
-
-/// Keeps nothing of the parts.
-#[derive(Clone, Copy)]
-pub struct NoLog;
-
-impl PartLog for NoLog {
-    ghost adds = { λ _ _ _. Unit {0} };
-
-    fn is_silent(&self) -> bool {
-        true
-    }
-
-    fn add_parts(
-        &mut self,
-        _blocks: &Blocks,
-        _places: &[Place],
-        _fresh: &[bool],
-        _parts: &Parts,
-        _birth: Birth,
-    ) {}
 }
 
 /// Makes an object of these parts, or leaves the table as it was if one of them finds no place. It answers the place
 /// of part 0, which stands for the object. The log gets where each part was placed, and nothing of an object that is
 /// refused.
-pub fn make_group<L: PartLog>(
+pub fn make_group<L: Log>(
     blocks: &mut Blocks,
     room: &mut PartPlaces,
     parts: &Parts,
@@ -300,7 +237,7 @@ pub fn make_group<L: PartLog>(
     ensures made { IfOk result (λ place. made_group blocks.old birth stamp parts.now ≡ Some (record { place = place; table = blocks.new })) }
     ensures full { OnErr result (made_group blocks.old birth stamp parts.now ≡ None) }
     ensures unchanged { OnErr result (blocks.new ≡ blocks.old) }
-    ensures told { OnOk result (L.adds log.old (make_deeds blocks.old birth stamp 0 parts.now) log.new) }
+    ensures told { OnOk result (Told L.has log.old (make_deeds blocks.old birth stamp 0 parts.now) log.new) }
     ensures quiet { OnErr result (log.new ≡ log.old) }
 {
     let count = parts.count();
@@ -318,7 +255,7 @@ pub fn make_group<L: PartLog>(
         birth,
         stamp,
     )?;
-    log.add_parts(blocks, &room.places, &room.fresh, parts, birth);
+    tell_parts(blocks, &room.places, &room.fresh, parts, birth, log);
     link_parts(blocks, &room.places[..count], parts);
     Ok(room.places[0])
 }

@@ -50,7 +50,7 @@ pub record BeginsWithEntry (text : Text) : Type 0 where
   pub reads : history_of (first_lines count (cut_after 10 text)) ≡ Means entries
   pub some : 0 < length entries
 
--- and one of which some lines are a history of version 2 with an entry
+-- A text that isn't too long, of which some lines, from the first on, are a history of version 2 with an entry
 pub record BeginsWithMeasured (text : Text) : Type 0 where
   pub short : length text ≤ 2147483648
   pub count : ℕ

@@ -7,7 +7,7 @@ abbrev pub lacks : ℕ → Text → Bool
 lacks byte [] = true
 lacks byte (b ∷ text) = not (b == byte) && lacks byte text
 
--- and none of these texts has it
+-- no byte of these texts is this one
 abbrev pub all_lack : ℕ → List Text → Bool
 all_lack byte [] = true
 all_lack byte (text ∷ texts) = lacks byte text && all_lack byte texts

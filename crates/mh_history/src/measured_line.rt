@@ -49,7 +49,8 @@ pub fn push_event(text: &mut String, event: Event) -> Result<(), NoMemory>
     }
 }
 
-fn push_command(text: &mut String, command: Command) -> Result<(), NoMemory>
+/// Adds the words of a command without its session. After an error the text may end with a part of them.
+pub fn push_command(text: &mut String, command: Command) -> Result<(), NoMemory>
     ensures { OnOk result (string_bytes text.new ≡ string_bytes text.old ++ joined (phrase_words (command_phrase command))) }
 {
     match command {

@@ -1,16 +1,15 @@
 -- Verdicts on the whole text of a source, of which a text was read.
-use Rattle.std.proofs.Common.{◌≡◌, ◌∙◌, ℕ, List, ap, refl, subst, sym}
+use Rattle.std.proofs.Common.{◌≡◌, ℕ, List, subst, sym}
 use Rattle.std.specs.Prelude.{Option}
 use Rattle.std.specs.Io.KnownBytes.{Appends}
 use Rattle.mh_model.specs.declared.config.Config.{Config}
 use Rattle.mh_model.specs.declared.history.Verdict.{Verdict}
-use Rattle.mh_model.specs.declared.history.Verdict.TheVariants.{Refused}
 use Rattle.mh_model.specs.Bytes.{Text, line_text}
 use Rattle.mh_model.specs.HistoryTexts.{IsChecked, history_reading, verdict_text}
-use Rattle.mh_model.specs.Script.{Reading, BadLine, Means}
+use Rattle.mh_model.specs.Script.{Reading}
 use Rattle.mh_text.specs.Stream.{AppendsBeginning}
-use Rattle.mh_judging.specs.Histories.{History, IsVerdictIn, under}
-use Rattle.mh_judging.specs.Judged.{BeginsToJudge, IsVerdictOn, Judges}
+use Rattle.mh_judging.specs.Histories.{History, IsVerdictIn}
+use Rattle.mh_judging.specs.Judged.{BeginsToJudge, Judges}
 use Rattle.mh_script.proofs.AddedLines.{AppendsBeginning-nothing}
 use Rattle.mh_script.proofs.SourceLemmas.{Reads, some_text}
 
@@ -21,18 +20,8 @@ GoesBy read Judged = (a b : Text) (verdict : Verdict) → read a ≡ read b → 
 pub checked_by : (config : Config) → GoesBy history_reading (IsChecked config)
 checked_by config a b verdict same h = rw same h
 
--- what is read of a text settles its verdict
+-- a verdict is settled by what is read of a text
 module _ {X : Type 0} (Lawful : Config → List X → Type 0) where
-  pub read_verdict : (r : Reading (History X)) (config : Config) (left : Reading (List X)) (verdict : Verdict) → r ≡ under config left → IsVerdictOn (Lawful config) left verdict → IsVerdictIn Lawful r verdict
-  read_verdict r config (BadLine line) verdict is found = rw is found
-  read_verdict r config (Means entries) verdict is found = rw is found
-
-  pub read_refused : (r : Reading (History X)) (line : ℕ) → r ≡ BadLine line → IsVerdictIn Lawful r (Refused line)
-  read_refused r line is = rw is refl
-
-  pub read_bad : (r : Reading (History X)) (config : Config) (left : Reading (List X)) (line : ℕ) → r ≡ under config left → left ≡ BadLine line → IsVerdictIn Lawful r (Refused line)
-  read_bad r config left line is bad = read_refused r line (is ∙ ap (under config) bad)
-
   pub goes_by : (read : Text → Reading (History X)) (Judged : Text → Verdict → Type 0) → ((text : Text) (verdict : Verdict) → IsVerdictIn Lawful (read text) verdict → Judged text verdict)
       → ((text : Text) (verdict : Verdict) → Judged text verdict → IsVerdictIn Lawful (read text) verdict) → GoesBy read Judged
   goes_by read Judged judges is_judged a b verdict same h = judges a verdict (subst (λ r. IsVerdictIn Lawful r verdict) (sym same) (is_judged b verdict h))

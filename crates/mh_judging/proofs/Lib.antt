@@ -4,7 +4,7 @@ pub mod MigratedLemmas
 pub mod PromisedLemmas
 pub mod RecordingLemmas
 pub mod RunHistoryLemmas
-pub mod ShownLemmas
 pub mod ExplainedLemmas
 pub mod ReplayLemmas
 pub mod OfScript
+pub mod FollowingLemmas

@@ -13,11 +13,10 @@ use Rattle.mh_model.specs.Machine.{first_machine, machine_replies}
 use Rattle.mh_model.specs.Script.{Reading, BadLine, Means}
 use Rattle.mh_promise.specs.Promise.{RepliesArePromised}
 use Rattle.mh_text_laws.proofs.run_histories.Records.{record_replies}
-use Rattle.mh_judging.specs.declared.judgement.Judgement.{Judgement}
 use Rattle.mh_judging.specs.declared.judgement.Judgement.TheVariants as judgement
 use Rattle.mh_judging.specs.Histories.{History, IsVerdictIn, own_reading, reading_under}
 use Rattle.mh_judging.specs.Judged.{Judges, Migrates}
-use Rattle.mh_judging.specs.Judgements.{verdict_of}
+use Rattle.mh_judging.specs.Judgements.{HistoryJudgement, verdict_of}
 use Rattle.mh_judging.specs.Promised.{HoldsIfLegal, IsPromisedHistory, IsPromisedMigration, IsPromisedRecord, IsPromisedUnder}
 use Rattle.mh_judging.specs.TextRules.{in_audited, in_checked}
 
@@ -46,14 +45,14 @@ module _ (law : RepliesArePromised) where
   pub audited_promised : (text : Text) (count : ℕ) → IsAudited text (Legal count) → IsPromisedRecord text count
   audited_promised text count audited = legal_promised (λ measured. measured.entry) IsLegalRecord record_right (own_reading text) count (in_audited text (Legal count) audited)
 
-  pub migration_promised : (config : Config) (known old new : Option Text) (found : Judgement) → Migrates config known old new (verdict_of found) → IsPromisedMigration config known old new found
+  pub migration_promised : (config : Config) (known old new : Option Text) (found : HistoryJudgement) → Migrates config known old new (verdict_of found) → IsPromisedMigration config known old new found
   migration_promised config known old new (judgement.Legal count) h =
       (h.text, h.is_text, (checked_promised config h.text count h.migrated.checked, (migration_text config (Legal count) (history_reading h.text), audited_promised _ count (h.legal count refl), h.migrated.wrote)))
   migration_promised config known old new (judgement.Refused line reason) h = tt
   migration_promised config known old new other h = tt
 
 -- what holds of each legal text holds of that of a source
-pub judged_legal : (Judged : Text → Verdict → Type 0) (Holds : Text → ℕ → Type 0) → ((text : Text) (count : ℕ) → Judged text (Legal count) → Holds text count) → (known old new : Option Text) (found : Judgement)
+pub judged_legal : (Judged : Text → Verdict → Type 0) (Holds : Text → ℕ → Type 0) → ((text : Text) (count : ℕ) → Judged text (Legal count) → Holds text count) → (known old new : Option Text) (found : HistoryJudgement)
     → Judges Judged known old new (verdict_of found) → HoldsIfLegal Holds known found
 judged_legal Judged Holds holds known old new (judgement.Legal count) h = (h.text, h.is_text, holds h.text count h.judged)
 judged_legal Judged Holds holds known old new (judgement.Refused line reason) h = tt

@@ -1,134 +1,61 @@
--- A machine that replays the entries of a history, as they are read.
-use Rattle.std.proofs.Common.{◌≡◌, ◌≢◌, ◌∙◌, ℕ, suc, ◌+◌, ◌-◌, ◌<◌, ◌≤◌, List, [], ◌∷◌, ◌++◌, length, map, take, Option, ap, sym, refl, subst, append_assoc, arith}
-use Rattle.std.proofs.lemmas.List.{length-take-le, length_push, map-append, take_at}
-use Rattle.mh_history.proofs.LineLemmas.{Walked, entry_taken, walked_more, walked_start, walked_whole, with_entries}
-use Rattle.mh_history.specs.Beginnings.{TakesEntry, entries_left, entry_before}
+-- A machine that follows the entries of a history.
+use Rattle.std.proofs.Common.{◌≡◌, ◌∙◌, ℕ, ◌+◌, true, false, Option, Some, None, IfSome, IfNone, List, [], ◌∷◌, ◌++◌, length, refl, subst, sym, arith}
 use Rattle.mh_model.specs.declared.command.Event.{Event}
 use Rattle.mh_model.specs.declared.config.Config.{Config}
-use Rattle.mh_model.specs.Bytes.{Text}
 use Rattle.mh_model.specs.History.{IsFirstBadOf}
-use Rattle.mh_model.specs.Limits.{most_entries}
-use Rattle.mh_model.specs.Machine.{Machine, event_step, first_machine}
-use Rattle.mh_model.specs.Script.{Reading, BadLine, Means}
-use Rattle.mh_run_laws.specs.Replays.{machine_at}
-use Rattle.mh_run_laws.proofs.runs.RunsByEvents.{after_more, no-events}
-use Rattle.mh_script.specs.OfMachine.Judging.{IsEventRule}
-use Rattle.mh_script.specs.OfMachine.Running.{Running, first_running}
-use Rattle.mh_text.specs.Pieces.{Lines}
+use Rattle.mh_model.specs.Machine.{Machine}
+use Rattle.mh_script.specs.OfMachine.Judging.{IsEventRule, IsTried}
+use Rattle.mh_script.specs.OfMachine.Running.{Running}
+use Rattle.mh_script.proofs.OfMachine.JudgeLemmas.{none_judged, seen_right, seen_wrong}
+use Rattle.mh_judging.specs.declared.bad_entry.BadEntry.{BadEntry}
 use Rattle.mh_judging.specs.declared.entry_fault.EntryFault.{EntryFault}
-use Rattle.mh_judging.specs.Faults.{HasFault, IsFaultAfter, IsWrongAfter}
+use Rattle.mh_judging.specs.Faults.{IsFaultAfter, IsWrongAfter}
+use Rattle.mh_judging.specs.Following.{IsBadEntry}
+use Rattle.mh_judging.specs.Replaying.{HasReplayed, Replayed, running}
 
--- Lists ------------------------------------------------------------------------------------------
+module _ {X : Type 0} (event_of : X → Event) (Fits : Machine → X → Type 0) (Lawful : Config → List X → Type 0) (rule : (config : Config) → IsEventRule config event_of Fits (Lawful config)) (config : Config) where
+  pub replayed_none : (first : Replayed) → first.config ≡ config → first.machine ≡ None → HasReplayed event_of Lawful config [] first
+  replayed_none first same none = rw (same, none) (record { under = refl; judged = none_judged config event_of Fits (Lawful config) (rule config) })
 
--- an entry with others before it and after it
-pub record Stands {X : Type 0} (history before : List X) (entry : X) : Type 0 where
-  pub after : List X
-  pub is : history ≡ before ++ entry ∷ after
+  -- an entry was tried after those that were followed
+  module _ (entries : List X) (old : Replayed) (has : HasReplayed event_of Lawful config entries old) (entry : X) (new : Running) where
+    pub replayed_more : IsTried (Fits (running old).machine entry) (running old) (event_of entry) new true → HasReplayed event_of Lawful config (entries ++ entry ∷ []) (record { config = old.config; machine = Some new })
+    replayed_more tried = record { under = has.under; judged = seen_right config event_of (Lawful config) entries entry Fits (rule config) (running old) new None refl has.judged tried }
 
--- entries before the first bad one are lawful, and with it they aren't
-module _ {X : Type 0} (Lawful : List X → Type 0) (history before : List X) (entry : X) (stands : Stands history before entry) (bad : IsFirstBadOf Lawful history (length before + 1)) where
-  pub lawful_before : Lawful before
-  lawful_before =
-      let number : length before ≡ length before + 1 - 1 = omega arith in
-      let front : take (length before + 1 - 1) history ≡ before = ap (λ xs. take (length before + 1 - 1) xs) stands.is ∙ take_at before (entry ∷ stands.after) (length before + 1 - 1) number in
-      subst Lawful front bad.before
+    pub replayed_bad : (Wrong : Machine → X → EntryFault → Type 0) (bad : BadEntry) → bad.number ≡ (running old).done + 1 → IsTried (Fits (running old).machine entry) (running old) (event_of entry) new false
+        → IsFaultAfter (Wrong (running old).machine) (running old).done entry bad.fault → IsBadEntry (Lawful config) (IsWrongAfter config event_of Wrong) (entries ++ entry ∷ []) bad × (bad.number ≡ length entries + 1)
+    replayed_bad Wrong bad number tried wrong =
+        let judged = has.judged in
+        let first : IsFirstBadOf (Lawful config) (entries ++ entry ∷ []) ((running old).done + 1) = seen_wrong config event_of (Lawful config) entries entry Fits (rule config) (running old) new None (running old).done refl judged refl tried in
+        let Q : Machine → Type 0 = λ m. IsFaultAfter (Wrong m) (running old).done entry bad.fault in
+        let P : ℕ → Type 0 = λ count. IsFaultAfter (IsWrongAfter config event_of Wrong entries) count entry bad.fault in (
+          record {
+            first = subst (IsFirstBadOf (Lawful config) (entries ++ entry ∷ [])) (sym number) first;
+            fault = record { before = entries; entry = entry; after = []; history_is = refl; numbered = omega (arith, number, judged.done); fault = subst P judged.done (subst Q judged.machine wrong) };
+          },
+          omega (arith, number, judged.done),
+        )
 
-  front_with : take (length before + 1) history ≡ before ++ entry ∷ []
-  front_with =
-      let longer = length_push before entry in
-      let split : history ≡ (before ++ entry ∷ []) ++ stands.after = stands.is ∙ sym (append_assoc before (entry ∷ []) stands.after) in
-      ap (λ xs. take (length before + 1) xs) split ∙ take_at (before ++ entry ∷ []) stands.after (length before + 1) (omega (arith, longer))
+-- the machine that was opened, if it wasn't, tried an entry
+module _ {X : Type 0} (event_of : X → Event) (Fits : Machine → X → Type 0) (Lawful : Config → List X → Type 0) (rule : (config : Config) → IsEventRule config event_of Fits (Lawful config)) (old opened : Replayed) (machine new : Running)
+    (same : opened.config ≡ old.config) (is : opened.machine ≡ Some (running old)) (at : opened.machine ≡ Some machine) (entry : X) where
+  same_machine : machine ≡ running old
+  same_machine = let both : Some machine ≡ Some (running old) = sym at ∙ is in cc
 
-  pub unlawful_with : ¬ Lawful (before ++ entry ∷ [])
-  unlawful_with lawful = bad.bad (subst Lawful (sym front_with) lawful)
+  pub follows_right : (found : Option BadEntry) → IfNone found (IsTried (Fits machine.machine entry) machine (event_of entry) new true)
+      → IfNone found ((first : Replayed) (entries : List X) → HasReplayed event_of Lawful first.config entries old → HasReplayed event_of Lawful first.config (entries ++ entry ∷ []) (record { config = opened.config; machine = Some new }))
+  follows_right (Some bad) tried = tt
+  follows_right None tried = λ first entries has.
+      let more = replayed_more event_of Fits Lawful rule first.config entries old has entry new (subst (λ (m : Running). IsTried (Fits m.machine entry) m (event_of entry) new true) same_machine tried) in
+      record { under = same ∙ has.under; judged = more.judged }
 
--- before the last of the lawful entries a machine isn't full
-pub has_room : {X : Type 0} (Lawful : List X → Type 0) (history : List X) (number done : ℕ) → ((entries : List X) → Lawful entries → length entries ≤ most_entries) → IsFirstBadOf Lawful history number → done + 1 < number
-    → done < most_entries
-has_room Lawful history number done few bad below =
-    omega (arith, few (take (number - 1) history) bad.before, length-take-le (number - 1) history (omega (arith, bad.within)), below)
-
--- entries that were read of lines, and those that are left
-module _ {X : Type 0} {read : Text → Option X} {old mid : Lines} {seen : List X} (walked : Walked read old mid seen) where
-  -- the next entry stands after those that were read
-  pub stands : (new : Lines) (entry : X) (entries : List X) → TakesEntry read mid new entry → entries_left read old ≡ Means entries → Stands entries seen entry
-  stands new entry entries took means =
-      let whole : entries_left read old ≡ with_entries seen (entry_before entry (entries_left read new)) = walked_whole read old mid seen walked ∙ ap (with_entries seen) (entry_taken read mid new entry took) in
-      by (entries_left read new) (sym means ∙ whole) where
-        by : (left : Reading (List X)) → Means entries ≡ with_entries seen (entry_before entry left) → Stands entries seen entry
-        by (BadLine line) is = cc
-        by (Means more) is = record { after = more; is = cc }
-
-  -- what is left are entries
-  pub left_means : (entries : List X) → entries_left read old ≡ Means entries → (more : List X) × (entries_left read mid ≡ Means more)
-  left_means entries means = by (entries_left read mid) refl (sym means ∙ walked_whole read old mid seen walked) where
-    by : (left : Reading (List X)) → entries_left read mid ≡ left → Means entries ≡ with_entries seen left → (more : List X) × (entries_left read mid ≡ Means more)
-    by (BadLine line) is whole = cc
-    by (Means more) is whole = (more, is)
-
--- Replays ----------------------------------------------------------------------------------------
-
--- entries were read, and a machine has done their events
-pub record Replays {X : Type 0} (read : Text → Option X) (config : Config) (event_of : X → Event) (number : ℕ) (old now : Lines) (running : Running) : Type 0 where
-  pub seen : List X
-  pub walked : Walked read old now seen
-  pub machine : running.machine ≡ machine_at config (map event_of seen)
-  pub done : running.done ≡ length seen
-  pub short : length seen < number
-
-pub replays_none : {X : Type 0} (read : Text → Option X) (config : Config) (event_of : X → Event) (number : ℕ) (old : Lines) (running : Running) → running ≡ first_running config → 0 < number → Replays read config event_of number old old running
-replays_none read config event_of number old running is some = record {
-  seen = [];
-  walked = walked_start read old;
-  machine = ap (λ (r : Running). r.machine) is ∙ no-events config;
-  done = ap (λ (r : Running). r.done) is;
-  short = some;
-}
-
-module _ {X : Type 0} {read : Text → Option X} {config : Config} {event_of : X → Event} {number : ℕ} {old mid : Lines} {before : Running} (replays : Replays read config event_of number old mid before) where
-  -- one entry more was read and done
-  pub replays_more : (new : Lines) (entry : X) (after : Running) → TakesEntry read mid new entry → after.machine ≡ (event_step before.machine (event_of entry)).state → after.done ≡ suc before.done → before.done + 1 ≢ number
-      → Replays read config event_of number old new after
-  replays_more new entry after took machine done other =
-      let longer = length_push replays.seen entry in
-      record {
-        seen = replays.seen ++ entry ∷ [];
-        walked = walked_more read old mid new replays.seen (replays.seen ++ entry ∷ []) entry replays.walked took refl;
-        machine = machine ∙ ap (λ (m : Machine). (event_step m (event_of entry)).state) replays.machine
-            ∙ sym (ap (machine_at config) (map-append event_of replays.seen (entry ∷ [])) ∙ after_more.event (first_machine config) (map event_of replays.seen) (event_of entry));
-        done = omega (arith, done, replays.done, longer);
-        short = omega (arith, longer, replays.short, replays.done, other);
-      }
-
-  -- the entry with the number
-  module _ (Lawful : List X → Type 0) (new : Lines) (entry : X) (entries : List X) (took : TakesEntry read mid new entry) (means : entries_left read old ≡ Means entries) (bad : IsFirstBadOf Lawful entries number) (reached : before.done + 1 ≡ number) where
-    is_at : number ≡ length replays.seen + 1
-    is_at = omega (arith, reached, replays.done)
-
-    first_bad : IsFirstBadOf Lawful entries (length replays.seen + 1)
-    first_bad = subst (IsFirstBadOf Lawful entries) is_at bad
-
-    pub lawful_seen : Lawful replays.seen
-    lawful_seen = lawful_before Lawful entries replays.seen entry (stands replays.walked new entry entries took means) first_bad
-
-    -- isn't one that the machine answers so
-    pub is_wrong : (Fits : Machine → X → Type 0) → IsEventRule config event_of Fits Lawful → before.done ≢ most_entries → ¬ Fits before.machine entry
-    is_wrong Fits rule other fits =
-        let room : length (replays.seen ++ entry ∷ []) ≤ most_entries = omega (arith, other, replays.done, rule.few replays.seen lawful_seen, length_push replays.seen entry) in
-        unlawful_with Lawful entries replays.seen entry (stands replays.walked new entry entries took means) first_bad
-        (rule.more replays.seen entry lawful_seen room (subst (λ (m : Machine). Fits m entry) replays.machine fits))
-
-    pub has_fault : (Wrong : Machine → X → EntryFault → Type 0) (f : EntryFault) → IsFaultAfter (Wrong before.machine) before.done entry f
-        → (read_as : List X) → entries_left read old ≡ Means read_as → HasFault (IsWrongAfter config event_of Wrong) read_as number f
-    has_fault Wrong f is read_as also =
-        let at = stands replays.walked new entry read_as took also in
-        let Q : Machine → Type 0 = λ m. IsFaultAfter (Wrong m) before.done entry f in
-        let P : ℕ → Type 0 = λ count. IsFaultAfter (IsWrongAfter config event_of Wrong replays.seen) count entry f in
-        record {
-          before = replays.seen;
-          entry = entry;
-          after = at.after;
-          history_is = at.is;
-          numbered = omega (arith, is_at);
-          fault = subst P replays.done (subst Q replays.machine is);
-        }
+  pub follows_wrong : (Wrong : Machine → X → EntryFault → Type 0) (found : Option BadEntry)
+      → IfSome found (λ bad. (bad.number ≡ machine.done + 1) × IsTried (Fits machine.machine entry) machine (event_of entry) new false × IsFaultAfter (Wrong machine.machine) machine.done entry bad.fault)
+      → IfSome found (λ bad. (first : Replayed) (entries : List X) → HasReplayed event_of Lawful first.config entries old
+      → IsBadEntry (Lawful first.config) (IsWrongAfter first.config event_of Wrong) (entries ++ entry ∷ []) bad × (bad.number ≡ length entries + 1) × Unit {0})
+  follows_wrong Wrong None tried = tt
+  follows_wrong Wrong (Some bad) tried = λ first entries has.
+      let Q : Running → Type 0 = λ m. (bad.number ≡ m.done + 1) × IsTried (Fits m.machine entry) m (event_of entry) new false × IsFaultAfter (Wrong m.machine) m.done entry bad.fault in
+      let here : Q (running old) = subst Q same_machine tried in
+      let wrong = replayed_bad event_of Fits Lawful rule first.config entries old has entry new Wrong bad here.0 here.1 here.2 in
+      (wrong.0, wrong.1, tt)

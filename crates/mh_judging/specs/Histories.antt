@@ -13,9 +13,8 @@ use Rattle.mh_model.specs.Machine.{Machine}
 use Rattle.mh_model.specs.Script.{Reading, BadLine, Means, reading_map}
 use Rattle.mh_script.specs.OfReasons.HistoryReasons.{IsHistoryReason}
 use Rattle.mh_judging.specs.declared.entry_fault.EntryFault.{EntryFault}
-use Rattle.mh_judging.specs.declared.judgement.Judgement.{Judgement}
 use Rattle.mh_judging.specs.Faults.{HasFault, IsWrongAfter}
-use Rattle.mh_judging.specs.Judgements.{IsExplained}
+use Rattle.mh_judging.specs.Judgements.{HistoryJudgement, IsExplained}
 
 -- a history of either version, with the configuration under which it is judged
 pub record History (X : Type 0) : Type 0 where
@@ -45,5 +44,5 @@ IsFaultIn event_of Wrong (BadLine line) number fault = ⊥
 IsFaultIn event_of Wrong (Means history) number fault = HasFault (IsWrongAfter history.config event_of Wrong) history.entries number fault
 
 -- what a judgement says of a text of this version beside its verdict is true
-abbrev pub IsExplainedAs : Version → (Text → ℕ → EntryFault → Type 0) → Text → Judgement → Type 0
+abbrev pub IsExplainedAs : Version → (Text → ℕ → EntryFault → Type 0) → Text → HistoryJudgement → Type 0
 IsExplainedAs version Fault text = IsExplained (IsHistoryReason version text) (Fault text)

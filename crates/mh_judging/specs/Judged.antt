@@ -10,11 +10,10 @@ use Rattle.mh_model.specs.HistoryTexts.{IsAudited, IsChecked, IsJudged, IsMigrat
 use Rattle.mh_model.specs.Script.{Reading, BadLine, Means}
 use Rattle.mh_text.specs.Stream.{AppendsBeginning}
 use Rattle.mh_history.specs.Beginnings.{BeginsWithEntry, BeginsWithMeasured}
-use Rattle.mh_judging.specs.declared.judgement.Judgement.{Judgement}
-use Rattle.mh_judging.specs.Judgements.{IsAuditExplained, IsCheckExplained, verdict_of}
+use Rattle.mh_judging.specs.Judgements.{HistoryJudgement, IsAuditExplained, IsCheckExplained, verdict_of}
 use Rattle.mh_judging.specs.Promised.{HoldsIfLegal, IsPromisedMigration, IsPromisedRecord, IsPromisedUnder}
 use Rattle.mh_script.specs.declared.fault.ScriptFault.{ScriptFault}
-use Rattle.mh_script.specs.declared.fault.ScriptFault.TheVariants.{Read, NoMemory, HistoryFull}
+use Rattle.mh_script.specs.declared.fault.ScriptFault.TheVariants.{Read, Write, NoMemory, HistoryFull}
 use Rattle.mh_script.specs.Run.{Device}
 use Rattle.mh_script.specs.Texts.{Blames, IsTextOf, LeavesSource, WantsMemory}
 
@@ -33,7 +32,7 @@ pub record Judges (Judged : Text → Verdict → Type 0) (known old new : Option
   pub wrote : Appends old new (line_text (verdict_text verdict))
 
 -- what a judgement says beside its verdict is true of the text of a source
-pub record Explains (Explained : Text → Judgement → Type 0) (known : Option Text) (judgement : Judgement) : Type 0 where
+pub record Explains {J : Type 0} (Explained : Text → J → Type 0) (known : Option Text) (judgement : J) : Type 0 where
   pub text : Text
   pub is_text : IsTextOf known text
   pub explained : Explained text judgement
@@ -78,13 +77,17 @@ pub record BeginsToMigrate (config : Config) (known old new : Option Text) : Typ
 
 -- Ended ------------------------------------------------------------------------------------------
 
--- A history of a source was judged, of so many bytes at most, and how that ended. If it is legal, it is promised so, and if memory is taken for it, it begins
--- so
-pub record IsJudging (Judged : Text → Verdict → Type 0) (Promised : Text → ℕ → Type 0) (Explained : Text → Judgement → Type 0) (Begins : Text → Type 0) (most : ℕ) (source source' sink sink' : Device) (ended : Result Judgement ScriptFault) : Type 0 where
-  pub judged : IfOk ended (λ judgement. Judges Judged source.bytes sink.bytes sink'.bytes (verdict_of judgement))
-  pub promise : IfOk ended (HoldsIfLegal Promised source.bytes)
+-- if the sink failed
+abbrev pub OnWrite : {J : Type 0} → Result J ScriptFault → Type 0 → Type 0
+OnWrite ended P = IsErrOf ended Write → P
+
+-- A text of a source was judged, of so many bytes at most, and how that ended. If memory is taken for it, it begins so. Where nothing was written for a
+-- fault, it says of some kinds of text that they have a verdict all the same
+pub record IsJudging {J : Type 0} (verdict : J → Verdict) (Judged : Text → Verdict → Type 0) (Told : J → Text → Verdict → Type 0) (When : Result J ScriptFault → Type 0 → Type 0) (Explained : Text → J → Type 0) (Begins : Text → Type 0) (most : ℕ)
+    (source source' sink sink' : Device) (ended : Result J ScriptFault) : Type 0 where
+  pub judged : IfOk ended (λ found. Judges (Told found) source.bytes sink.bytes sink'.bytes (verdict found))
   pub explained : IfOk ended (Explains Explained source.bytes)
-  pub begun : OnErr ended (BeginsToJudge Judged source.bytes sink.bytes sink'.bytes)
+  pub begun : When ended (BeginsToJudge Judged source.bytes sink.bytes sink'.bytes)
   pub never_full : ended ≢ Err HistoryFull
   pub unread : IsErrOf ended Read → Keeps sink.bytes sink'.bytes
   pub unjudged : IsErrOf ended NoMemory → Keeps sink.bytes sink'.bytes
@@ -92,16 +95,22 @@ pub record IsJudging (Judged : Text → Verdict → Type 0) (Promised : Text →
   pub taken : LeavesSource most source.bytes source'.bytes ended
   pub blames : Blames source.failures source'.failures sink.failures sink'.failures ended
 
--- A history of version 1 was judged under a configuration, and how that ended
-abbrev pub IsChecking : Config → (source source' sink sink' : Device) → Result Judgement ScriptFault → Type 0
-IsChecking config = IsJudging (IsChecked config) (IsPromisedUnder config) (IsCheckExplained config) BeginsWithEntry 1073741824
+-- A history was judged, and how that ended. If it is legal, it is promised so
+pub record IsPromisedJudging (Judged : Text → Verdict → Type 0) (Promised : Text → ℕ → Type 0) (Explained : Text → HistoryJudgement → Type 0) (Begins : Text → Type 0) (most : ℕ)
+    (source source' sink sink' : Device) (ended : Result HistoryJudgement ScriptFault) : Type 0 where
+  pub promise : IfOk ended (HoldsIfLegal Promised source.bytes)
+  pub judging : IsJudging verdict_of Judged (λ found. Judged) OnErr Explained Begins most source source' sink sink' ended
 
--- a history of version 2 was judged, and how that ended
-abbrev pub IsAuditing : (source source' sink sink' : Device) → Result Judgement ScriptFault → Type 0
-IsAuditing = IsJudging IsAudited IsPromisedRecord IsAuditExplained BeginsWithMeasured 2147483648
+-- one of version 1 under a configuration
+abbrev pub IsChecking : Config → (source source' sink sink' : Device) → Result HistoryJudgement ScriptFault → Type 0
+IsChecking config = IsPromisedJudging (IsChecked config) (IsPromisedUnder config) (IsCheckExplained config) BeginsWithEntry 1073741824
+
+-- and one of version 2
+abbrev pub IsAuditing : (source source' sink sink' : Device) → Result HistoryJudgement ScriptFault → Type 0
+IsAuditing = IsPromisedJudging IsAudited IsPromisedRecord IsAuditExplained BeginsWithMeasured 2147483648
 
 -- A history of a source was migrated, and how that ended
-pub record IsMigrating (config : Config) (source source' sink sink' : Device) (ended : Result Judgement ScriptFault) : Type 0 where
+pub record IsMigrating (config : Config) (source source' sink sink' : Device) (ended : Result HistoryJudgement ScriptFault) : Type 0 where
   pub migrated : IfOk ended (λ judgement. Migrates config source.bytes sink.bytes sink'.bytes (verdict_of judgement))
   pub promise : IfOk ended (IsPromisedMigration config source.bytes sink.bytes sink'.bytes)
   pub explained : IfOk ended (Explains (IsCheckExplained config) source.bytes)

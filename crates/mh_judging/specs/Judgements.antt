@@ -16,19 +16,23 @@ use Rattle.mh_judging.specs.declared.judgement.Judgement.{Judgement}
 use Rattle.mh_judging.specs.declared.judgement.Judgement.TheVariants.{Legal, Refused, FirstBad}
 use Rattle.mh_judging.specs.Faults.{HasFault, IsEntryFault, IsMeasuredFault, IsWrongAfter}
 
+-- what is found of a history
+abbrev pub HistoryJudgement : Type 0
+HistoryJudgement = Judgement HistoryReason EntryFault
+
 -- the verdict of a judgement
-abbrev pub verdict_of : Judgement → Verdict
+abbrev pub verdict_of : {R F : Type 0} → Judgement R F → Verdict
 verdict_of (Legal count) = verdict.Legal count
 verdict_of (Refused line reason) = verdict.Refused line
 verdict_of (FirstBad number fault) = verdict.FirstBad number
 
 -- the text is refused as a history of this version with this line, for a reason that is true of it
-abbrev pub IsRefusal : Version → Text → ℕ → Judgement → Type 0
+abbrev pub IsRefusal : Version → Text → ℕ → HistoryJudgement → Type 0
 IsRefusal version text line (Refused of reason) = (of ≡ line) × IsHistoryReason version text line reason
 IsRefusal version text line judgement = ⊥
 
 -- What a judgement says beside its verdict is true: the reason of a bad line, and what is wrong with a bad entry
-abbrev pub IsExplained : (ℕ → HistoryReason → Type 0) → (ℕ → EntryFault → Type 0) → Judgement → Type 0
+abbrev pub IsExplained : {R F : Type 0} → (ℕ → R → Type 0) → (ℕ → F → Type 0) → Judgement R F → Type 0
 IsExplained Bad Wrong (Legal count) = Unit {0}
 IsExplained Bad Wrong (Refused line reason) = Bad line reason
 IsExplained Bad Wrong (FirstBad number fault) = Wrong number fault
@@ -38,7 +42,7 @@ abbrev pub IsCheckedFault : Config → Text → ℕ → EntryFault → Type 0
 IsCheckedFault config text number fault = (entries : List Entry) × (history_reading text ≡ Means entries) × HasFault (IsWrongAfter config (λ entry. entry.event) IsEntryFault) entries number fault
 
 -- what a judgement says of such a text beside its verdict is true
-abbrev pub IsCheckExplained : Config → Text → Judgement → Type 0
+abbrev pub IsCheckExplained : Config → Text → HistoryJudgement → Type 0
 IsCheckExplained config text = IsExplained (IsHistoryReason One text) (IsCheckedFault config text)
 
 -- a fault of the entry with this number, of a text of version 2
@@ -47,5 +51,5 @@ IsAuditedFault text number fault =
     (recorded : Recorded) × (recorded_reading text ≡ Means recorded) × HasFault (IsWrongAfter recorded.config (λ measured. measured.entry.event) IsMeasuredFault) recorded.entries number fault
 
 -- what a judgement says of such a text beside its verdict is true
-abbrev pub IsAuditExplained : Text → Judgement → Type 0
+abbrev pub IsAuditExplained : Text → HistoryJudgement → Type 0
 IsAuditExplained text = IsExplained (IsHistoryReason Two text) (IsAuditedFault text)

@@ -9,3 +9,6 @@ pub mod TextRules
 pub mod OfPromise
 pub mod OfReasons
 pub mod OfScript
+pub mod Following
+pub mod Replaying
+pub mod ReplayRules

@@ -5,9 +5,9 @@ use Rattle.mh_model.specs.declared.history.Entry.{Entry}
 use Rattle.mh_model.specs.Bytes.{Text}
 use Rattle.mh_model.specs.Script.{Reading, Means}
 use Rattle.mh_promise.specs.Promise.{ArePromised}
-use Rattle.mh_judging.specs.declared.judgement.Judgement.{Judgement}
 use Rattle.mh_judging.specs.declared.judgement.Judgement.TheVariants.{Legal}
 use Rattle.mh_judging.specs.Histories.{History, own_reading, reading_under}
+use Rattle.mh_judging.specs.Judgements.{HistoryJudgement}
 use Rattle.mh_script.specs.Texts.{IsTextOf, Writes}
 
 -- A history of so many entries was read, whose replies are those of an outcome that keeps the promise of their events
@@ -26,10 +26,10 @@ abbrev pub IsPromisedRecord : Text → ℕ → Type 0
 IsPromisedRecord text count = IsPromisedHistory (λ measured. measured.entry) (own_reading text) count
 
 -- If a judgement finds the text of a source legal, this holds of it, with as many entries
-abbrev pub HoldsIfLegal : (Text → ℕ → Type 0) → Option Text → Judgement → Type 0
+abbrev pub HoldsIfLegal : (Text → ℕ → Type 0) → Option Text → HistoryJudgement → Type 0
 HoldsIfLegal Holds known (Legal count) = (text : Text) × IsTextOf known text × Holds text count
 HoldsIfLegal Holds known judgement = Unit {0}
 
 -- A legal history is promised, and so is what was written of it
-abbrev pub IsPromisedMigration : Config → (known old new : Option Text) → Judgement → Type 0
+abbrev pub IsPromisedMigration : Config → (known old new : Option Text) → HistoryJudgement → Type 0
 IsPromisedMigration config known old new = HoldsIfLegal (λ text count. IsPromisedUnder config text count × Writes (λ written. IsPromisedRecord written count) old new) known

@@ -16,31 +16,31 @@
 //! has at least 6 bytes of text. A legal dump has at most 266,240 items. So only a text with a longer one, which is
 //! bad, takes more than 9 MB for an entry. No machine is opened before there is an entry. So memory is refused only
 //! for bytes that the source gave, or for a text that begins with an entry.
-ghost use Rattle.std.specs.Prelude.{◌≡◌, ◌≢◌, ◌<◌, ◌^◌, [], IfOk, IfErr, OnErr, IsErrOf};
+ghost use Rattle.std.specs.Prelude.{◌≡◌, ◌≢◌, ◌<◌, ◌^◌, ℕ, [], IfOk, OnErr, IsErrOf};
 ghost use Rattle.std.specs.Io.KnownBytes.{Keeps};
 ghost use Rattle.mh_model.specs.HistoryTexts.{IsAudited, IsChecked};
-ghost use Rattle.mh_model.specs.declared.config.Config.{Config};
-ghost use Rattle.mh_script.specs.OfReasons.HistoryReasons.{most_bytes};
-ghost use Rattle.mh_script.specs.OfMachine.Judging.{HasSeen};
-ghost use Rattle.mh_text.specs.TextErrors.{Refuses};
-ghost use Rattle.mh_history.specs.Beginnings.{BeginsWithEntry, BeginsWithMeasured, HasEntry, entries_left, entry_before};
-ghost use Rattle.mh_judging.specs.Judgements.{IsAuditExplained, IsCheckExplained, verdict_of};
-ghost use Rattle.mh_judging.specs.Judged.{BeginsToJudge, Explains, IsVerdictOn, Judges};
+ghost use Rattle.mh_model.specs.Script.{BadLine};
+ghost use Rattle.mh_script.specs.OfReasons.HistoryReasons.{IsRefusedAt, most_bytes};
+ghost use Rattle.mh_history.specs.Beginnings.{BeginsWithEntry, BeginsWithMeasured, HasEntry, entries_left};
+ghost use Rattle.mh_judging.specs.Following.{IsJudgement};
+ghost use Rattle.mh_judging.specs.Judgements.{IsAuditExplained, IsCheckExplained, IsRefusal, verdict_of};
+ghost use Rattle.mh_judging.specs.Judged.{BeginsToJudge, Explains, Judges};
 ghost use Rattle.mh_judging.specs.Histories.{IsExplainedAs};
 ghost use Rattle.mh_judging.specs.Promised.{HoldsIfLegal, IsPromisedRecord, IsPromisedUnder};
 ghost use Rattle.mh_script.specs.Texts.{Blames, LeavesSource, WantsMemory};
 
-use crate::explained::judge_text;
-use crate::judgement::Judgement;
+use crate::bad_entry::BadEntry;
+use crate::following::{Follower, follow_lines};
+use crate::judgement::{HistoryJudgement, Judgement, refused};
+use crate::replay::Replay;
 use crate::text_entry::TextEntry;
 use mh_history::history::HISTORY_BYTES;
-use mh_history::lines::{RefusedLine, next_entry};
+use mh_history::lines::RefusedLine;
 use mh_history::record::RECORD_BYTES;
 use mh_model::config::Config;
-use mh_model::history::{Entry, Measured, Verdict};
+use mh_model::history::{Entry, Measured, Version};
 use mh_model::memory::NoMemory;
 use mh_script::fault::ScriptFault;
-use mh_script::mh_machine::judge::Judge;
 use mh_script::mh_promise::promise::replies_are_promised;
 use mh_script::texts::{read_whole, write_verdict};
 use mh_text::device::DeviceFailed;
@@ -50,76 +50,74 @@ use mh_text::source::Source;
 use mh_text::text_error::TextError;
 use std::alloc::Global;
 
-/// Shows a judge an entry, and then those that are left, each as it is read.
-fn replay<E: TextEntry>(
+/// What is found of a text of this version whose lines that are left are all to be entries.
+fn judge_lines<F: Follower>(
     alloc: Global,
-    judge: &mut Judge,
-    first: &E,
+    mut follower: F,
     mut lines: Lines<'_>,
-) -> Result<Verdict, TextError>
-    ensures verdict { IfOk result (λ verdict. (config : Config) → HasSeen config E.event_of (E.lawful config) [] judge.old
-        → IsVerdictOn (E.lawful config) (entry_before first.now (entries_left E.of_line lines.entry)) verdict) }
-    ensures line { IfErr result (Refuses (entries_left E.of_line lines.entry)) }
+    version: Version,
+    text: &[u8],
+) -> Result<HistoryJudgement, NoMemory>
+    requires begun { F.follows follower [] follower }
+    requires refused { (line : ℕ) → entries_left (F.of_line follower) lines ≡ BadLine line → IsRefusedAt version text.now line }
+    ensures found { IfOk result (IsJudgement (IsRefusal version text.now) (F.lawful follower) (F.wrong follower) (entries_left (F.of_line follower) lines.entry)) }
+    ensures memory { OnErr result (HasEntry (F.of_line follower) lines.entry) }
 {
-    judge.entry(first)?;
-    while let Some(entry) = next_entry::<E>(alloc, &mut lines)? {
-        judge.entry(&entry)?;
+    match follow_lines(alloc, &mut follower, &mut lines) {
+        Ok(_) if !lines.is_empty() => Ok(refused(version, text, lines.number())),
+        Ok(Some(BadEntry { number, fault })) => Ok(Judgement::FirstBad { number, fault }),
+        Ok(None) => Ok(Judgement::Legal(follower.followed())),
+        Err(error) => match error {
+            TextError::Line(line) => Ok(refused(version, text, line)),
+            TextError::NoMemory => Err(NoMemory),
+        },
     }
-    Ok(judge.verdict())
 }
 
-/// The verdict on the entries that are left of a history. No machine is opened before there is one.
-fn judge_lines<E: TextEntry>(
-    alloc: Global,
-    config: Config,
-    mut lines: Lines<'_>,
-) -> Result<Verdict, TextError>
-    ensures verdict { IfOk result (IsVerdictOn (E.lawful config) (entries_left E.of_line lines.entry)) }
-    ensures line { IfErr result (Refuses (entries_left E.of_line lines.entry)) }
-    ensures memory { IsErrOf result TextError.NoMemory → HasEntry E.of_line lines.entry }
-{
-    let Some(first) = next_entry::<E>(alloc, &mut lines)? else {
-        return Ok(Verdict::Legal(0));
-    };
-    let mut judge = Judge::open(alloc, config)?;
-    replay(alloc, &mut judge, &first, lines)
-}
-
-/// The verdict on a text of some version, whose entries are replayed with one worker and not kept.
-#[tactic(auto, using(crate::proofs::JudgedLemmas::read_verdict, crate::proofs::JudgedLemmas::read_bad, crate::proofs::JudgedLemmas::read_refused))]
-pub(crate) fn verdict_on<E: TextEntry>(
+/// The verdict on a text of some version, and what is wrong with the text. Each line of it is read once.
+pub(crate) fn judge_text<E: TextEntry>(
     alloc: Global,
     given: E::Given,
     text: &[u8],
-) -> Result<Verdict, NoMemory>
-    ensures verdict { IfOk result (E.judged given text.now) }
+) -> Result<HistoryJudgement, NoMemory>
+    ensures verdict { IfOk result (λ judgement. E.judged given text.now (verdict_of judgement)) }
+    ensures explained { IfOk result (IsExplainedAs E.version (E.is_fault given) text.now) }
     ensures memory { OnErr result (E.begins text.now) }
 {
-    let (config, lines) = match E::lines(given, text) {
-        Ok(read) => read,
-        Err(RefusedLine(line)) => return Ok(Verdict::Refused(line)),
-    };
-    match judge_lines::<E>(alloc, config, lines) {
-        Ok(verdict) => Ok(verdict),
-        Err(TextError::Line(line)) => Ok(Verdict::Refused(line)),
-        Err(TextError::NoMemory) => Err(NoMemory),
+    match E::lines(given, text) {
+        Ok((config, lines)) => {
+            judge_lines(
+                alloc,
+                Replay::<E>::new(alloc, config),
+                lines,
+                E::version(),
+                text,
+            )
+        }
+        Err(RefusedLine(line)) => Ok(refused(E::version(), text, line)),
     }
 }
 
-/// The verdict on a text of version 1, whose entries are replayed with one worker and not kept.
-pub fn verdict_on_history(alloc: Global, config: Config, text: &[u8]) -> Result<Verdict, NoMemory>
-    ensures verdict { IfOk result (IsChecked config text.now) }
+/// The verdict on a text of version 1, and what is wrong with the text.
+pub fn judge_history(
+    alloc: Global,
+    config: Config,
+    text: &[u8],
+) -> Result<HistoryJudgement, NoMemory>
+    ensures verdict { IfOk result (λ judgement. IsChecked config text.now (verdict_of judgement)) }
+    ensures explained { IfOk result (IsCheckExplained config text.now) }
     ensures memory { OnErr result (BeginsWithEntry text.now) }
 {
-    verdict_on::<Entry>(alloc, config, text)
+    judge_text::<Entry>(alloc, config, text)
 }
 
-/// The verdict on a text of version 2 under its own configuration, whose entries are replayed with one worker and not kept.
-pub fn verdict_on_record(alloc: Global, text: &[u8]) -> Result<Verdict, NoMemory>
-    ensures verdict { IfOk result (IsAudited text.now) }
+/// The verdict on a text of version 2 under its own configuration, and what is wrong with the text.
+pub fn judge_record(alloc: Global, text: &[u8]) -> Result<HistoryJudgement, NoMemory>
+    ensures verdict { IfOk result (λ judgement. IsAudited text.now (verdict_of judgement)) }
+    ensures explained { IfOk result (IsAuditExplained text.now) }
     ensures memory { OnErr result (BeginsWithMeasured text.now) }
 {
-    verdict_on::<Measured>(alloc, (), text)
+    judge_text::<Measured>(alloc, (), text)
 }
 
 /// Reads a whole history of some version, replays it with one worker, and then writes the line of its verdict, for which it
@@ -129,7 +127,7 @@ fn judge_script<E: TextEntry, S: Source, W: Sink>(
     given: E::Given,
     source: &mut S,
     sink: &mut W,
-) -> Result<Judgement, ScriptFault>
+) -> Result<HistoryJudgement, ScriptFault>
     requires source_count { S.failures source.old < 2 ^ 62 }
     requires sink_count { W.failures sink.old < 2 ^ 62 }
     ensures judged { IfOk result (λ judgement. Judges (E.judged given) (S.rest source.old) (W.written sink.old) (W.written sink.new) (verdict_of judgement)) }
@@ -157,7 +155,7 @@ pub fn check_script<S: Source, W: Sink>(
     config: Config,
     source: &mut S,
     sink: &mut W,
-) -> Result<Judgement, ScriptFault>
+) -> Result<HistoryJudgement, ScriptFault>
     requires source_count { S.failures source.old < 2 ^ 62 }
     requires sink_count { W.failures sink.old < 2 ^ 62 }
     ensures judged { IfOk result (λ judgement. Judges (IsChecked config) (S.rest source.old) (W.written sink.old) (W.written sink.new) (verdict_of judgement)) }
@@ -181,7 +179,7 @@ pub fn audit_script<S: Source, W: Sink>(
     alloc: Global,
     source: &mut S,
     sink: &mut W,
-) -> Result<Judgement, ScriptFault>
+) -> Result<HistoryJudgement, ScriptFault>
     requires source_count { S.failures source.old < 2 ^ 62 }
     requires sink_count { W.failures sink.old < 2 ^ 62 }
     ensures judged { IfOk result (λ judgement. Judges IsAudited (S.rest source.old) (W.written sink.old) (W.written sink.new) (verdict_of judgement)) }

@@ -11,15 +11,17 @@
 pub use mh_script;
 pub use mh_script::mh_machine;
 
+mod again;
+pub mod bad_entry;
 pub mod entry_fault;
-pub mod explained;
+pub mod following;
 pub mod judge;
 pub mod judgement;
 pub mod measure;
 pub mod migrate;
 pub mod record;
 mod recording;
-pub mod replay;
+mod replay;
 pub mod reply_fault;
 pub mod run_history;
 pub mod text_entry;

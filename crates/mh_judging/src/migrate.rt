@@ -21,8 +21,8 @@ ghost use Rattle.mh_judging.specs.Judged.{BeginsMigration, BeginsToMigrate, Expl
 ghost use Rattle.mh_judging.specs.Promised.{IsPromisedMigration};
 ghost use Rattle.mh_script.specs.Texts.{Blames, BlamesSink, LeavesSource, WantsMemory};
 
-use crate::explained::judge_history;
-use crate::judgement::Judgement;
+use crate::judge::judge_history;
+use crate::judgement::{HistoryJudgement, Judgement};
 use crate::record::write_lines;
 use mh_history::history::{HISTORY_BYTES, history_lines};
 use mh_model::config::Config;
@@ -36,7 +36,10 @@ use mh_text_laws::migration::{migrated_texts_are_legal, texts_are_migrated};
 use std::alloc::Global;
 
 /// Writes the line of the verdict on a text that is not migrated.
-fn write_unmigrated<W: Sink>(judgement: Judgement, sink: &mut W) -> Result<Judgement, ScriptFault>
+fn write_unmigrated<W: Sink>(
+    judgement: HistoryJudgement,
+    sink: &mut W,
+) -> Result<HistoryJudgement, ScriptFault>
     requires { W.failures sink.old < 2 ^ 62 }
     ensures done { IfOk result (λ told. (told ≡ judgement) × Appends (W.written sink.old) (W.written sink.new) (line_text (verdict_text (verdict_of judgement)))) }
     ensures begun { OnErr result (AppendsBeginning (W.written sink.old) (W.written sink.new) (line_text (verdict_text (verdict_of judgement)))) }
@@ -57,7 +60,7 @@ fn write_legal<W: Sink>(
     text: &[u8],
     count: u64,
     sink: &mut W,
-) -> Result<Judgement, ScriptFault>
+) -> Result<HistoryJudgement, ScriptFault>
     requires legal { IsChecked config text.now (verdict.Legal count) }
     requires failures { W.failures sink.old < 2 ^ 62 }
     ensures done { IfOk result (λ judgement. MigratesText config text.now (W.written sink.old) (W.written sink.new) (verdict_of judgement)) }
@@ -79,7 +82,7 @@ fn write_migrated<W: Sink>(
     config: Config,
     text: &[u8],
     sink: &mut W,
-) -> Result<Judgement, ScriptFault>
+) -> Result<HistoryJudgement, ScriptFault>
     requires { W.failures sink.old < 2 ^ 62 }
     ensures done { IfOk result (λ judgement. MigratesText config text.now (W.written sink.old) (W.written sink.new) (verdict_of judgement)) }
     ensures explained { IfOk result (IsCheckExplained config text.now) }
@@ -101,7 +104,7 @@ pub fn migrate_script<S: Source, W: Sink>(
     config: Config,
     source: &mut S,
     sink: &mut W,
-) -> Result<Judgement, ScriptFault>
+) -> Result<HistoryJudgement, ScriptFault>
     requires first { config.rules ≡ First }
     requires source_count { S.failures source.old < 2 ^ 62 }
     requires sink_count { W.failures sink.old < 2 ^ 62 }

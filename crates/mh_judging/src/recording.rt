@@ -14,8 +14,8 @@ ghost use Rattle.mh_text.specs.Stream.{AppendsBeginning};
 ghost use Rattle.mh_script.specs.Texts.{Buffers};
 ghost use Rattle.mh_judging.specs.Recording.{Advances, IsFirst, WritesReading, WritesRecord, record_line};
 
+use crate::again::entry_again;
 use crate::measure::measure;
-use crate::replay::entry_again;
 use mh_history::entry_text::HeaderText;
 use mh_history::measured_line::push_measured_line;
 use mh_model::command::Event;

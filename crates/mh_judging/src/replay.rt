@@ -1,77 +1,130 @@
-//! Histories that are replayed once more, up to their first bad entry.
+//! Histories that the machine follows: it does their events with one worker, and says what is right.
 //!
-//! What is found to be wrong with it is true of it. It is its reply beside the right one, or its units beside the
-//! right ones. Or the entry is one too many. What is right is what the machine answers after the entries before it.
-//! Lines that are known to be entries are read by `entry_again`, which refuses none.
-ghost use Rattle.std.specs.Prelude.{◌≡◌, ◌≢◌, ◌≤◌, ◌<◌, [], List, length, IfOk, IfSome, IfNone};
-ghost use Rattle.mh_judging.specs.Faults.{HasFault, IsFaultAfter, IsWrongAfter};
-ghost use Rattle.mh_history.specs.Beginnings.{TakesEntry, entries_left, entry_before};
-ghost use Rattle.mh_model.specs.History.{IsFirstBadOf};
+//! It is opened with the first entry. So memory is refused only for a text that begins with one. What is wrong with an
+//! entry is its reply beside the right one, or its units beside the right ones. Or the entry is one too many.
+ghost use Rattle.std.specs.Prelude.{◌≡◌, ◌≤◌, ◌+◌, Some, [], true, false, IfOk, IfSome, IfNone, OnOk};
+ghost use Rattle.mh_judging.specs.Faults.{IsFaultAfter, IsWrongAfter};
+ghost use Rattle.mh_judging.specs.Replaying.{HasReplayed, running};
+ghost use Rattle.mh_judging.specs.ReplayRules.{replayed_legal};
 ghost use Rattle.mh_model.specs.Limits.{most_entries};
-ghost use Rattle.mh_model.specs.Script.{Means};
+ghost use Rattle.mh_script.specs.OfMachine.Judging.{IsTried};
 
+use crate::bad_entry::BadEntry;
 use crate::entry_fault::EntryFault;
+use crate::following::Follower;
 use crate::measure::measure;
 use crate::text_entry::TextEntry;
-use mh_history::lines::{FromLine, next_entry};
 use mh_model::config::Config;
 use mh_model::memory::NoMemory;
 use mh_script::mh_machine::machine::Machine;
 use mh_script::mh_scan::scan::OneScan;
-use mh_text::pieces::Lines;
-use mh_text::text_error::TextError;
 use std::alloc::Global;
+use std::marker::{Model, PhantomData};
 
-/// Reads the next of lines that are entries, none after the last.
-pub fn entry_again<E: FromLine>(alloc: Global, lines: &mut Lines<'_>) -> Result<Option<E>, NoMemory>
-    requires { (entries : List E) × (entries_left E.of_line lines.old ≡ Means entries) }
-    ensures entry { IfOk result (λ next. IfSome next (λ entry.
-        entries_left E.of_line lines.old ≡ entry_before entry (entries_left E.of_line lines.new))) }
-    ensures taken { IfOk result (λ next. IfSome next (TakesEntry E.of_line lines.old lines.new)) }
-    ensures fewer { IfOk result (λ next. IfSome next (λ entry. length lines.new.lines < length lines.old.lines)) }
-    ensures end { IfOk result (λ next. IfNone next (entries_left E.of_line lines.old ≡ Means [])) }
-{
-    match next_entry(alloc, lines) {
-        Ok(next) => Ok(next),
-        Err(TextError::NoMemory) => Err(NoMemory),
-        Err(TextError::Line(_)) => unreachable!(),
-    }
-}
-
-/// What is wrong with an entry that isn't right after what the machine has done.
-fn fault_of<E: TextEntry>(
+/// Does the event of an entry, and finds what is wrong with the entry.
+#[tactic(auto, unfolding(mh_model::specs::Limits::most_entries))]
+fn try_on<E: TextEntry>(
     machine: &mut Machine,
     entry: E,
     scanner: &mut OneScan,
-) -> Result<EntryFault, NoMemory>
-    requires few { machine.old.done ≤ most_entries }
-    requires wrong { machine.old.done ≢ most_entries → ¬ E.fits machine.old.machine entry }
-    ensures { IfOk result (IsFaultAfter (E.is_wrong machine.old.machine) machine.old.done entry) }
+) -> Result<Option<BadEntry>, NoMemory>
+    requires { machine.old.done ≤ most_entries }
+    ensures right { IfOk result (λ found. IfNone found (IsTried (E.fits machine.old.machine entry) machine.old (E.event_of entry) machine.new true)) }
+    ensures wrong { IfOk result (λ found. IfSome found (λ bad. (bad.number ≡ machine.old.done + 1)
+        × IsTried (E.fits machine.old.machine entry) machine.old (E.event_of entry) machine.new false × IsFaultAfter (E.is_wrong machine.old.machine) machine.old.done entry bad.fault)) }
 {
+    let number = machine.done() + 1;
     if !machine.has_history_room() {
-        return Ok(EntryFault::TooMany);
+        return Ok(Some(BadEntry {
+            number,
+            fault: EntryFault::TooMany,
+        }));
     }
     let right = measure(machine, entry.event(), scanner)?;
-    Ok(entry.fault(right))
+    match entry.fault(right) {
+        Some(fault) => Ok(Some(BadEntry { number, fault })),
+        None => Ok(None),
+    }
 }
 
-/// What is wrong with the first bad of entries that lines are read as. They are replayed up to it, with one worker.
-pub fn fault_in<E: TextEntry>(
+/// The machine that follows the entries of a text.
+#[derive(Drop)]
+pub(crate) struct Replay<E> {
     alloc: Global,
     config: Config,
-    mut lines: Lines<'_>,
-    number: u64,
-) -> Result<EntryFault, NoMemory>
-    requires { (entries : List E) × (entries_left E.of_line lines ≡ Means entries) × IsFirstBadOf (E.lawful config) entries number }
-    ensures { IfOk result (λ fault. (entries : List E) → entries_left E.of_line lines.entry ≡ Means entries → HasFault (IsWrongAfter config E.event_of E.is_wrong) entries number fault) }
-{
-    let mut machine = Machine::open(alloc, config)?;
-    let mut scanner = OneScan::new(alloc);
-    while let Some(entry) = entry_again::<E>(alloc, &mut lines)? {
-        if machine.done() + 1 == number {
-            return fault_of(&mut machine, entry, &mut scanner);
+    machine: Option<Machine>,
+    scanner: OneScan,
+    entries: PhantomData<E>,
+}
+
+impl<E> Model for Replay<E> {
+    ghost use Rattle.mh_judging.specs.Replaying.{Replayed};
+
+    ghost Value = { Replayed };
+
+    ghost view = { λ r. record { config = r.config; machine = r.machine } };
+}
+
+impl<E: TextEntry> Replay<E> {
+    /// One that has followed no entry, which takes no memory.
+    pub(crate) fn new(alloc: Global, config: Config) -> Replay<E>
+        ensures config { result.config ≡ config }
+        ensures none { HasReplayed E.event_of E.lawful result.config [] result }
+    {
+        Replay {
+            alloc,
+            config,
+            machine: None,
+            scanner: OneScan::new(alloc),
+            entries: PhantomData,
         }
-        machine.step_in_room(entry.event(), &mut scanner)?;
     }
-    unreachable!()
+
+    /// Opens the machine, unless it is open.
+    fn open(&mut self) -> Result<(), NoMemory>
+        ensures { OnOk result ((self.new.config ≡ self.old.config) × (self.new.machine ≡ Some (running self.old))) }
+    {
+        match &self.machine {
+            Some(_) => Ok(()),
+            None => {
+                self.machine = Some(Machine::open(self.alloc, self.config)?);
+                Ok(())
+            }
+        }
+    }
+}
+
+impl<E: TextEntry> Follower for Replay<E> {
+    type Entry = E;
+
+    ghost of_line = { λ replay. E.of_line };
+
+    ghost lawful = { λ first. E.lawful first.config };
+
+    ghost wrong = { λ first. IsWrongAfter first.config E.event_of E.is_wrong };
+
+    ghost follows = { λ first. HasReplayed E.event_of E.lawful first.config };
+
+    ghost looks = { λ first entries now. Unit {0} };
+
+    fn read(&self, alloc: Global, line: &[u8]) -> Result<Option<E>, NoMemory> {
+        E::from_line(alloc, line)
+    }
+
+    fn followed(&self) -> u64 {
+        match &self.machine {
+            Some(machine) => machine.done(),
+            None => 0,
+        }
+    }
+
+    fn follow(&mut self, entry: E) -> Result<Option<BadEntry>, NoMemory> {
+        self.open()?;
+        match &mut self.machine {
+            Some(machine) => try_on(machine, entry, &mut self.scanner),
+            None => unreachable!(),
+        }
+    }
+
+    ghost legal = { replayed_legal E.event_of E.lawful };
 }

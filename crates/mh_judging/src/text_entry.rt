@@ -2,7 +2,7 @@
 //!
 //! This is all in which the versions differ for a judge of texts: the first line, the words that say of a text what its
 //! verdict is, and what may be wrong with an entry.
-ghost use Rattle.std.specs.Prelude.{◌≡◌, ◌<◌, ◌≤◌, ℕ, length, IfOk, IfErr};
+ghost use Rattle.std.specs.Prelude.{◌≡◌, ◌<◌, ◌≤◌, ℕ, length, IfOk, IfErr, IfSome, IfNone};
 ghost use Rattle.mh_history.proofs.HistoryLemmas.{history_long, record_long};
 ghost use Rattle.mh_history.specs.Beginnings.{BeginsWithEntry, BeginsWithMeasured, HasEntry, entries_left};
 ghost use Rattle.mh_judging.specs.declared.entry_fault.EntryFault.{EntryFault};
@@ -65,9 +65,9 @@ pub trait TextEntry: FromLine + JudgedEntry + Drop {
         ensures line { IfErr result (λ refused. reading given text.now ≡ BadLine refused.0) };
 
     /// What is wrong with it, of which this is the right one.
-    fn fault(self, right: Measured) -> EntryFault
-        requires { (machine : model.Machine) × IsRight machine (Self.event_of self) right × (¬ Self.fits machine self) }
-        ensures { (machine : model.Machine) → IsRight machine (Self.event_of self) right → is_wrong machine self result };
+    fn fault(self, right: Measured) -> Option<EntryFault>
+        ensures right { IfNone result ((machine : model.Machine) → IsRight machine (Self.event_of self) right → Self.fits machine self) }
+        ensures wrong { IfSome result (λ fault. (machine : model.Machine) → IsRight machine (Self.event_of self) right → (¬ Self.fits machine self) × is_wrong machine self fault) };
 
     ghost long: { (given : Self.Given) (text : Text) → most_bytes version < length text → reading given text ≡ BadLine 0 };
 
@@ -112,8 +112,11 @@ impl TextEntry for Entry {
         Ok((given, lines))
     }
 
-    fn fault(self, right: Measured) -> EntryFault {
-        reply_fault(self.reply, right.entry.reply)
+    fn fault(self, right: Measured) -> Option<EntryFault> {
+        if is_same(&self.reply, &right.entry.reply) {
+            return None;
+        }
+        Some(reply_fault(self.reply, right.entry.reply))
     }
 
     ghost long = { λ config text long. under_bad config text 0 (history_long text long) };
@@ -159,20 +162,25 @@ impl TextEntry for Measured {
         record_lines(text)
     }
 
-    fn fault(self, right: Measured) -> EntryFault {
+    fn fault(self, right: Measured) -> Option<EntryFault> {
+        let given = Units {
+            mutator: self.mutator,
+            collector: self.collector,
+        };
+        let units = Units {
+            mutator: right.mutator,
+            collector: right.collector,
+        };
         if !is_same(&self.entry.reply, &right.entry.reply) {
-            return reply_fault(self.entry.reply, right.entry.reply);
+            return Some(reply_fault(self.entry.reply, right.entry.reply));
         }
-        EntryFault::Units {
-            given: Units {
-                mutator: self.mutator,
-                collector: self.collector,
-            },
-            right: Units {
-                mutator: right.mutator,
-                collector: right.collector,
-            },
+        if given == units {
+            return None;
         }
+        Some(EntryFault::Units {
+            given,
+            right: units,
+        })
     }
 
     ghost long = { λ given text long. own_bad text 0 (record_long text long) };

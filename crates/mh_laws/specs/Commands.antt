@@ -47,10 +47,6 @@ abbrev pub NoPlaceIsAFullHeap : Type 0
 NoPlaceIsAFullHeap = (heap : HeapState) (who slot references numbers : ℕ) → refusal (record (heap_sight heap) { is_full = never_full }) who (command.New slot references numbers) ≡ None → new_group heap references numbers ≡ None
     → (mutator_step heap who (command.New slot references numbers)).reply ≡ reply.Refused HeapFull
 
--- A new object that is answered as done has all its parts, and its slot names it
-abbrev pub DoneIsBorn : Type 0
-DoneIsBorn = (heap : HeapState) (who slot references numbers : ℕ) → (mutator_step heap who (command.New slot references numbers)).reply ≡ reply.Done → IsBorn heap who slot references numbers
-
 -- A command that a test refuses answers so and changes nothing, and one that none refuses has its effect. A new object that has a place is born, and
 -- a session's end empties its 16 slots in order
 pub record CommandsAreAnswered : Type 0 where

@@ -1,8 +1,8 @@
 -- What quanta spend, and what their steps cost.
-use Rattle.std.specs.Prelude.{◌≡◌, ℕ, ◌+◌, ◌≤◌, ◌<◌, ◌⊎◌, Bool, false, IsTrue, List}
+use Rattle.std.specs.Prelude.{◌≤◌, Bool, List}
 use Rattle.mh_model.specs.declared.config.Config.{Config}
 use Rattle.mh_model.specs.declared.command.Event.{Event}
-use Rattle.mh_model.specs.Collector.{Collector, is_idle, step_cost, steps, quantum}
+use Rattle.mh_model.specs.Collector.{Collector, step_cost, quantum}
 use Rattle.mh_model.specs.Machine.{first_machine, half_step, machine_after}
 use Rattle.mh_model.specs.CycleBounds.{IsInBounds}
 use Rattle.mh_model.specs.Limits.{least_quantum}
@@ -12,10 +12,6 @@ use Rattle.mh_table_laws.specs.Tables.{IsSized}
 abbrev pub QuantumKeepsItsLimit : Type 0
 QuantumKeepsItsLimit = (config : Config) (collector : Collector) → (quantum config collector).units ≤ config.quantum
 
--- While a cycle runs, the next step costs at least 1
-abbrev pub RunningStepCosts : Type 0
-RunningStepCosts = (collector : Collector) (has_moved : Bool) → is_idle collector.phase ≡ false → 1 ≤ step_cost collector has_moved
-
 -- The next step costs at most 209 if classes have at most 64 words and blocks at most 60 references. So they have wherever a collector is within the
 -- bounds of its cycle, and at every moment of every run, half steps included
 pub record DearestStepCosts209 : Type 0 where
@@ -23,14 +19,3 @@ pub record DearestStepCosts209 : Type 0 where
   pub in_bounds : (config : Config) (collector : Collector) → IsInBounds config collector → IsSized collector.table
   pub after_events : (config : Config) (events : List Event) → IsSized (machine_after (first_machine config) events).heap.collector.table
   pub after_commands : (config : Config) (events : List Event) (event : Event) → IsSized (half_step (machine_after (first_machine config) events) event).heap.collector.table
-
--- A quantum stops only if no cycle runs or the next step doesn't fit in what is left. Its price is that after a move of the quantum, or that before
--- one
-abbrev pub QuantumGoesOn : Type 0
-QuantumGoesOn = (config : Config) (collector : Collector) →
-    let spending = quantum config collector in
-    IsTrue (is_idle spending.collector.phase) ⊎ ((has_moved : Bool) × (config.quantum < spending.units + step_cost spending.collector has_moved))
-
--- The count of steps bounds nothing: any two that are no less than the units left give the same steps
-abbrev pub CountOfStepsNeverRunsOut : Type 0
-CountOfStepsNeverRunsOut = (count other left : ℕ) (has_moved : Bool) (collector : Collector) → left ≤ count → left ≤ other → steps count left has_moved collector ≡ steps other left has_moved collector

@@ -1,11 +1,10 @@
 -- What commands find: the objects that slots hold, where the fields of objects lie, and what references lead to.
 use Rattle.std.specs.Prelude.{◌≡◌, ℕ, ◌+◌, ◌<◌, Option, Some, None, get_or}
 use Rattle.mh_model.specs.declared.shape.Shape.{Shape}
-use Rattle.mh_model.specs.World.{World}
 use Rattle.mh_model.specs.Table.{Block, reference_at, LeadsOn, LeadsHome, position_of, reference_in, loaded_reference}
 use Rattle.mh_model.specs.Collector.{Collector}
-use Rattle.mh_model.specs.Mutator.{HeapState, root_at, shape_at, field_of}
-use Rattle.mh_model.specs.Invariant.{IsIn, IsPlainAt, LeadsToObject, HeapKeeps, IsKeeping, IsSteady, MayBeWritten, MayHaveWritten, IsObjectAt, IsFindable, HasField}
+use Rattle.mh_model.specs.Mutator.{HeapState, root_at, shape_at}
+use Rattle.mh_model.specs.Invariant.{IsIn, IsPlainAt, LeadsToObject, IsKeeping, IsSteady, IsObjectAt, IsFindable, HasField}
 
 -- A slot of a kept heap holds the place of an object, whose shape is the one that is seen there; or it is empty, and no shape is seen
 pub record SlotsHoldObjects : Type 0 where
@@ -32,10 +31,3 @@ pub record ReferencesLeadOn : Type 0 where
   pub loaded : (collector : Collector) → IsSteady collector → (place : ℕ) (shape : Shape) → IsObjectAt collector place shape → (field : ℕ) → field < shape.references → (target : ℕ) → loaded_reference collector.table (position_of collector.table place field) ≡ Some target
       → (other : Shape) × IsObjectAt collector target other
   pub grey : (collector : Collector) → IsSteady collector → (place : ℕ) → IsIn place collector.grey → (block : Block) × IsPlainAt collector place block × (block.stamp ≡ collector.cycle)
-
--- What slots of a kept heap hold and what is loaded from objects in them may be written. The fields of these objects may have it written
-pub record CommandsWriteWhatTheyMay : Type 0 where
-  pub slots : (snapshot : World) (heap : HeapState) → HeapKeeps snapshot heap → (slot : ℕ) → MayBeWritten snapshot heap.next_birth heap.collector (root_at heap slot)
-  pub fields : (snapshot : World) (heap : HeapState) → HeapKeeps snapshot heap → (slot field : ℕ) (shape : Shape) → shape_at heap slot ≡ Some shape → field < shape.references → MayHaveWritten snapshot heap.next_birth heap.collector (field_of heap slot field).place
-  pub loaded : (snapshot : World) (heap : HeapState) → HeapKeeps snapshot heap → (slot field : ℕ) (shape : Shape) → shape_at heap slot ≡ Some shape → field < shape.references
-      → MayBeWritten snapshot heap.next_birth heap.collector (loaded_reference heap.collector.table (field_of heap slot field))

@@ -1,5 +1,5 @@
 -- What keeps the pages of tables, the slots of their classes, and blocks within the limits of objects.
-use Rattle.std.specs.Prelude.{◌≡◌, ℕ, ◌+◌, ◌≤◌, Some, List}
+use Rattle.std.specs.Prelude.{◌≡◌, ℕ, ◌+◌, ◌≤◌, Some}
 use Rattle.mh_model.specs.declared.config.Config.{Config}
 use Rattle.mh_model.specs.declared.command.Command.{Command}
 use Rattle.mh_model.specs.declared.command.Event.{Event}
@@ -7,19 +7,11 @@ use Rattle.mh_model.specs.World.{most_fields}
 use Rattle.mh_model.specs.Pages.{Table}
 use Rattle.mh_model.specs.Classes.{parts}
 use Rattle.mh_model.specs.Table.{Block, Made, made_group}
-use Rattle.mh_model.specs.Collector.{Collector, first_collector, collector_step, quantum}
+use Rattle.mh_model.specs.Collector.{Collector, collector_step, quantum}
 use Rattle.mh_model.specs.Mutator.{HeapState, mutator_step}
 use Rattle.mh_model.specs.Invariant.{HasItsPages}
-use Rattle.mh_model.specs.Machine.{Machine, first_machine, half_step, event_step, machine_after}
+use Rattle.mh_model.specs.Machine.{Machine, half_step, event_step}
 use Rattle.mh_table_laws.specs.Tables.{KeepsItsPages}
-
--- A step of the collector keeps the number of pages, the slots of the class of each page in use, and blocks within the limits
-abbrev pub StepKeepsThePages : Type 0
-StepKeepsThePages = (collector : Collector) → KeepsItsPages 0 collector.table (collector_step collector).table
-
--- A quantum keeps the number of pages, the slots of the class of each page in use, and blocks within the limits
-abbrev pub QuantumKeepsThePages : Type 0
-QuantumKeepsThePages = (config : Config) (collector : Collector) → KeepsItsPages 0 collector.table (quantum config collector).collector.table
 
 -- an event that keeps its pages, half and whole: the number of pages, the slots of the class of each page in use, and blocks within the limits; these
 -- allow the most fields of the rules
@@ -27,24 +19,9 @@ pub record EventKeeps (machine : Machine) (event : Event) : Type 0 where
   pub half : KeepsItsPages (most_fields machine.heap.config) machine.heap.collector.table (half_step machine event).heap.collector.table
   pub whole : KeepsItsPages (most_fields machine.heap.config) machine.heap.collector.table (event_step machine event).state.heap.collector.table
 
--- Each event, half and whole, keeps the number of pages, the slots of the class of each page in use, and blocks within the limits; these allow the
--- most fields of the rules
-abbrev pub EventKeepsThePages : Type 0
-EventKeepsThePages = (machine : Machine) (event : Event) → EventKeeps machine event
-
 -- Making an object keeps the number of pages, the slots of the class of each page in use, and blocks within the limits; the object is within these
 abbrev pub MakingKeepsThePages : Type 0
 MakingKeepsThePages = (table : Table Block) (birth stamp references numbers : ℕ) (made : Made) → made_group table birth stamp (parts references numbers) ≡ Some made → KeepsItsPages (references + numbers) table made.table
-
--- The first table has as many pages as are configured. Each page in use has the slots of its class, which is one of the sizes. Blocks are within the
--- most fields of the rules
-abbrev pub FirstTableHasItsPages : Type 0
-FirstTableHasItsPages = (config : Config) → HasItsPages config (first_collector config).table
-
--- After every list of events the machine's table has as many pages as are configured. Each page in use has the slots of its class, which is one of
--- the sizes. Blocks are within the most fields of the rules
-abbrev pub EveryTableHasItsPages : Type 0
-EveryTableHasItsPages = (config : Config) (events : List Event) → HasItsPages config (machine_after (first_machine config) events).heap.collector.table
 
 -- A table with the configured pages, their slots, and blocks within the most fields stays one: after a command, a step, a quantum, and making an
 -- object that the rules allow

@@ -1,5 +1,5 @@
 //! Laws of the commands of sessions.
-ghost use Rattle.mh_laws.specs.Commands.{CommandKeepsTheCourse, RefusalLeavesTheHeap, FullHeapHasNoPlace, NoPlaceIsAFullHeap, DoneIsBorn, CommandsAreAnswered};
+ghost use Rattle.mh_laws.specs.Commands.{CommandKeepsTheCourse, RefusalLeavesTheHeap, FullHeapHasNoPlace, NoPlaceIsAFullHeap, CommandsAreAnswered};
 
 /// A command changes no phase, cursor, cycle number, asking or quanta, and keeps the pages and their slots.
 pub fn command_keeps_the_course()
@@ -19,11 +19,6 @@ pub fn full_heap_has_no_place()
 /// A new object that no other test refuses is refused by a full heap if its parts aren't made.
 pub fn no_place_is_a_full_heap()
     ensures { NoPlaceIsAFullHeap }
-{}
-
-/// A new object that is answered as done is born with all its parts.
-pub fn done_is_born()
-    ensures { DoneIsBorn }
 {}
 
 /// A command that a test refuses changes nothing, and one that none refuses has its effect.

@@ -1,5 +1,5 @@
 //! Laws of what commands find: objects in slots, their fields, and what references lead to.
-ghost use Rattle.mh_laws.specs.Fields.{SlotsHoldObjects, FieldsAreFound, ReferencesLeadOn, CommandsWriteWhatTheyMay};
+ghost use Rattle.mh_laws.specs.Fields.{SlotsHoldObjects, FieldsAreFound, ReferencesLeadOn};
 
 /// A slot holds the place of an object, whose shape is the one that is seen there.
 pub fn slots_hold_objects()
@@ -14,9 +14,4 @@ pub fn fields_are_found()
 /// References lead to blocks that are no forwarders, and those of slots and fields to objects.
 pub fn references_lead_on()
     ensures { ReferencesLeadOn }
-{}
-
-/// What slots hold and what is loaded may be written, and fields of objects in slots may have it written.
-pub fn commands_write_what_they_may()
-    ensures { CommandsWriteWhatTheyMay }
 {}

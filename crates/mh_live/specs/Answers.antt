@@ -33,7 +33,7 @@ pub data IsAnsweredOrNotDone (old : Running) (event : Event) (text : Text) (new 
   Full : old.done ≡ most_events → text ≡ full_line → new ≡ old → IsAnsweredOrNotDone old event text new false
   Starved : MayAskForMemory old.room event → text ≡ starved_line → new ≡ old → IsAnsweredOrNotDone old event text new false
 
--- the same of a command in a world, where memory is refused only for a new object that nothing else refuses
+-- a command in a world, what it is answered, and whether it was done: memory is refused only for a new object that nothing else refuses
 pub data IsAnsweredOrNotGrown (old : Grown) (who : ℕ) (command : Command) (text : Text) (new : Grown) : Bool → Type 0 where
   Grew : (given : Reply) → Growing old who command given new → text ≡ line_text (reply_text given) → IsAnsweredOrNotGrown old who command text new true
   FullWorld : most_events ≤ old.done → text ≡ full_line → new ≡ old → IsAnsweredOrNotGrown old who command text new false

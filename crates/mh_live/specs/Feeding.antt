@@ -25,7 +25,7 @@ pub record HasAnswered (opened : Live) (Hears : List LineRefusal → Type 0) (te
   pub wrote : Appends old new answers
   pub heard : Hears refusals
 
--- the same by what a feed has
+-- a feed has answered the whole lines of a text, told the refused ones, and kept what follows the last of them
 abbrev pub IsFed : Live → (List LineRefusal → Type 0) → Text → Option Text → Option Text → Feed → Type 0
 IsFed opened Hears text first new feed = HasAnswered opened Hears text first new feed.number feed.live feed.begun.items
 
@@ -115,7 +115,7 @@ pub record AnswersWhole (opened : Live) (Hears : List LineRefusal → Type 0) (s
   pub wrote : Appends sink sink' answers
   pub heard : Hears refusals
 
--- this text was written after the answers to some lines, when a run ended so. At the end of the source it is the refusal of a last line without its end.
+-- What was written after the answers to some lines, by how a run ended. At the end of the source it is the refusal of a last line without its end.
 -- A failed source leaves none. Another fault leaves a prefix of the next answer, and may leave lines unanswered
 abbrev pub FollowsAnswers : Result Unit ScriptFault → ℕ → Live → List Text → Text → Text → Type 0
 FollowsAnswers (Ok ended) n after later rest last = (later ≡ []) × (last ≡ unended_text n rest)

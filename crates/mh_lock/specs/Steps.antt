@@ -32,7 +32,7 @@ module _ {T E O : Type 0} where
   abbrev pub alone : ℕ → List E → Me T (SeatView E O)
   alone number log = (seat_view ((number, log) ∷ []) None, [])
 
-  -- and with the value, by what it found
+  -- such a seat, with the value, by what it found
   abbrev pub holding : ℕ → List E → Found E O → T → Me T (SeatView E O)
   holding number log found value = (seat_view ((number, log) ∷ []) (Some found), (0, value) ∷ [])
 
@@ -45,7 +45,7 @@ abbrev pub held : {T E : Type 0} → (T → List E) → List (ℕ × T) → List
 held entries [] = []
 held entries (slot ∷ slots) = entries slot.1
 
--- and its origin
+-- the origin of the value that a seat has
 abbrev pub held_origin : {T O : Type 0} → (T → O) → List (ℕ × T) → Option O
 held_origin origin [] = None
 held_origin origin (slot ∷ slots) = Some (origin slot.1)

@@ -1,18 +1,23 @@
 -- Orders that are judged by their times and by what their sessions see.
-use Rattle.std.proofs.Common.{◌≡◌, ◌≢◌, ◌∙◌, ℕ, zero, suc, ◌+◌, ◌-◌, ◌<◌, ◌≤◌, List, [], ◌∷◌, ◌++◌, length, take, get_or, ap, sym, refl, subst, arith}
-use Rattle.std.proofs.lemmas.List.{get_or-take, length-map, length-take, map_more, take-map, take-take, take_all}
+use Rattle.std.proofs.Common.{◌≡◌, ◌≢◌, ◌∙◌, ℕ, zero, suc, ◌+◌, ◌-◌, ◌<◌, ◌≤◌, true, List, [], ◌∷◌, ◌++◌, length, take, drop, get_or, ap, sym, refl, subst, append_assoc, arith}
+use Rattle.std.proofs.lemmas.List.{get_or-take, length-map, length-take, map-append, map_more, take-append-drop, take-map, take-take, take_all}
 use Rattle.mh_model.specs.declared.config.Rules.{Rules}
-use Rattle.mh_model.specs.declared.history.Verdict.{Verdict}
+use Rattle.mh_model.specs.declared.history.Entry.{Entry}
 use Rattle.mh_model.specs.declared.history.Verdict.TheVariants.{FirstBad, Legal}
+use Rattle.mh_model.specs.declared.reply.Reply.{Reply}
 use Rattle.mh_model.specs.History.{IsFirstBadOf}
 use Rattle.mh_model.specs.HistoryTexts.{IsJudged}
 use Rattle.mh_model.specs.Sessions.{IsLegalForSessions}
-use Rattle.mh_sessions.specs.Judging.{HasSeenSessions, SessionsJudging}
+use Rattle.mh_sessions.specs.Faults.{IsUnseenAfter}
+use Rattle.mh_sessions.specs.Full.{lawful_by, wrong_by}
+use Rattle.mh_sessions.specs.OfJudging.BadEntry.{BadEntry}
+use Rattle.mh_sessions.specs.OfJudging.Faults.{HasFault}
+use Rattle.mh_sessions.specs.OfJudging.Following.{IsBadEntry}
+use Rattle.mh_sessions.specs.Watching.{HasWatched, Watched}
+use Rattle.mh_sessions.proofs.OfJudging.FollowingLemmas.{bad_stays}
 use Rattle.mh_log.specs.declared.fault.OrderFault.TheVariants.{Late}
 use Rattle.mh_log.specs.declared.timed.Timed.{Timed}
-use Rattle.mh_log.specs.declared.judgement.LogJudgement.{LogJudgement}
 use Rattle.mh_log.specs.Faults.{IsOrderFault}
-use Rattle.mh_log.specs.Judgements.{IsOrderExplained, verdict_of}
 use Rattle.mh_log.specs.Orders.{IsLegalOrder, entries_of}
 use Rattle.mh_log.specs.Times.{IsLateAfter, KeepsTime}
 
@@ -64,17 +69,6 @@ module _ (rules : Rules) (order : List Timed) where
     within_order : number ≤ length order
     within_order = omega (arith, bad.within, length-map (take kept order) (λ (t : Timed). t.entry), length-take kept order)
 
-    seen_front : (n : ℕ) → n ≤ kept → take n (entries_of order) ≡ take n (entries_of (take kept order))
-    seen_front n within = take-map (λ (t : Timed). t.entry) n order ∙ sym (entries_take order n kept within)
-
-    pub seen_bad : IsFirstBadOf (IsLegalForSessions rules) (entries_of order) number
-    seen_bad = record {
-      counted = bad.counted;
-      within = omega (arith, within_order, length-map order (λ (t : Timed). t.entry));
-      before = subst (IsLegalForSessions rules) (sym (seen_front (number - 1) (omega (arith, within_kept)))) bad.before;
-      bad = λ legal. bad.bad (subst (IsLegalForSessions rules) (seen_front number within_kept) legal);
-    }
-
     pub order_bad : IsFirstBadOf (IsLegalOrder rules) order number
     order_bad = record {
       counted = bad.counted;
@@ -88,17 +82,32 @@ module _ (rules : Rules) (order : List Timed) where
 
 -- Sessions ---------------------------------------------------------------------------------------
 
--- a judge of sessions who is shown the entries of an order one after another
-module _ (rules : Rules) (order : List Timed) (place : ℕ) (judging : SessionsJudging) where
-  pub shown_more : (timed : Timed) → place < length order → timed ≡ get_or order place timed → HasSeenSessions rules (entries_of (take place order) ++ timed.entry ∷ []) judging → HasSeenSessions rules (entries_of (take (place + 1) order)) judging
-  shown_more timed within is seen =
-      let one : entries_of (take (place + 1) order) ≡ entries_of (take place order) ++ timed.entry ∷ [] =
-      map_more (λ (t : Timed). t.entry) order place timed within ∙ ap (λ (t : Timed). entries_of (take place order) ++ t.entry ∷ []) (sym is)
-      in
-      subst (λ es. HasSeenSessions rules es judging) (sym one) seen
+-- the entry of a command, with this reply
+abbrev pub entry_with : Timed → Reply → Entry
+entry_with timed reply = record { event = timed.entry.event; reply = reply }
 
-  pub shown_all : length order ≤ place → HasSeenSessions rules (entries_of (take place order)) judging → HasSeenSessions rules (entries_of order) judging
-  shown_all all seen = subst (λ o. HasSeenSessions rules (entries_of o) judging) (take_all place order all) seen
+-- one that follows the entries of an order one after another
+module _ (rules : Rules) (first : Watched) (asked : first.rules ≡ rules) (allowed : first.may_be_full ≡ true) (order : List Timed) (place : ℕ) (timed : Timed) (within : place < length order) (is : timed ≡ get_or order place timed) where
+  one_more : entries_of (take (place + 1) order) ≡ entries_of (take place order) ++ timed.entry ∷ []
+  one_more = map_more (λ (t : Timed). t.entry) order place timed within ∙ ap (λ (t : Timed). entries_of (take place order) ++ t.entry ∷ []) (sym is)
+
+  pub order_more : (reply : Reply) → reply ≡ timed.entry.reply → (watch : Watched) → HasWatched first (entries_of (take place order) ++ entry_with timed reply ∷ []) watch → HasWatched first (entries_of (take (place + 1) order)) watch
+  order_more reply same watch has = subst (λ es. HasWatched first es watch) (sym one_more) (subst (λ (r : Reply). HasWatched first (entries_of (take place order) ++ entry_with timed r ∷ []) watch) same has)
+
+  whole : entries_of order ≡ entries_of (take place order) ++ timed.entry ∷ entries_of (drop (place + 1) order)
+  whole =
+      ap entries_of (sym (take-append-drop (place + 1) order)) ∙ map-append (λ (t : Timed). t.entry) (take (place + 1) order) (drop (place + 1) order)
+      ∙ ap (λ es. es ++ entries_of (drop (place + 1) order)) one_more ∙ append_assoc (entries_of (take place order)) (timed.entry ∷ []) (entries_of (drop (place + 1) order))
+
+  pub order_bad_at : (reply : Reply) → reply ≡ timed.entry.reply → (bad : BadEntry) → IsBadEntry (lawful_by first.may_be_full first.rules) (wrong_by first.may_be_full first.rules) (entries_of (take place order) ++ entry_with timed reply ∷ []) bad
+      → IsBadEntry (IsLegalForSessions rules) (IsUnseenAfter rules) (entries_of order) bad
+  order_bad_at reply same bad wrong =
+      let P : Reply → Type 0 = λ r. IsBadEntry (lawful_by first.may_be_full first.rules) (wrong_by first.may_be_full first.rules) (entries_of (take place order) ++ entry_with timed r ∷ []) bad in
+      let stays = bad_stays (entries_of (take place order)) timed.entry (entries_of (drop (place + 1) order)) (lawful_by first.may_be_full first.rules) (wrong_by first.may_be_full first.rules) bad (subst P same wrong) in
+      rw whole (rw (allowed, asked) at stays)
+
+pub order_all : (rules : Rules) (first : Watched) → first.rules ≡ rules → (order : List Timed) (place : ℕ) (watch : Watched) → length order ≤ place → HasWatched first (entries_of (take place order)) watch → IsLegalForSessions rules (entries_of order)
+order_all rules first asked order place watch all has = subst (λ o. IsLegalForSessions rules (entries_of o)) (take_all place order all) (rw asked at has.followed.legal)
 
 pub some_timed : (order : List Timed) (place : ℕ) → place < length order → order ≢ []
 some_timed order place within none = omega (arith, within, ap length none)
@@ -125,19 +134,19 @@ some_order order kept some none = some (ap (take kept) none ∙ nothing kept) wh
   nothing zero = refl
   nothing (suc n) = refl
 
--- what is found of the first commands of an order, as the judge saw it
-module _ (rules : Rules) (order seen again : List Timed) (kept : ℕ) (same : seen ≡ order) (also : again ≡ order) (verdict : Verdict) (judged : IsJudged (IsLegalForSessions rules) (entries_of (take kept again)) verdict) where
-  judged_as : (found : Verdict) → verdict ≡ found → IsJudged (IsLegalForSessions rules) (entries_of (take kept order)) found
-  judged_as found is = subst (λ v. IsJudged (IsLegalForSessions rules) (entries_of (take kept order)) v) is (subst (λ o. IsJudged (IsLegalForSessions rules) (entries_of (take kept o)) verdict) also judged)
+-- the first bad entry of the commands that keep the times is that of the order
+module _ (rules : Rules) (order : List Timed) (kept : ℕ) (keeps : KeepsTime (take kept order)) (bad : BadEntry) (is : IsBadEntry (IsLegalForSessions rules) (IsUnseenAfter rules) (entries_of (take kept order)) bad) where
+  pub kept_bad : IsFirstBadOf (IsLegalOrder rules) order bad.number
+  kept_bad = order_bad rules order kept bad.number keeps is.first
 
-  pub found_seen : (number : ℕ) → KeepsTime (take kept seen) → verdict ≡ FirstBad number → IsFirstBadOf (IsLegalForSessions rules) (entries_of order) number
-  found_seen number keeps is = seen_bad rules order kept number (subst (λ o. KeepsTime (take kept o)) same keeps) (judged_as (FirstBad number) is)
-
-  pub found_bad : (number : ℕ) → KeepsTime (take kept seen) → verdict ≡ FirstBad number → IsFirstBadOf (IsLegalOrder rules) order number
-  found_bad number keeps is = order_bad rules order kept number (subst (λ o. KeepsTime (take kept o)) same keeps) (judged_as (FirstBad number) is)
-
-  pub found_legal : (count : ℕ) (found : LogJudgement) → verdict ≡ Legal count
-      → ((rules : Rules) → IsLegalForSessions rules (entries_of (take kept seen)) → IsJudged (IsLegalOrder rules) seen (verdict_of found) × IsOrderExplained rules seen found)
-      → IsJudged (IsLegalOrder rules) order (verdict_of found) × IsOrderExplained rules order found
-  found_legal count found is told =
-      subst (λ o. (rules : Rules) → IsLegalForSessions rules (entries_of (take kept o)) → IsJudged (IsLegalOrder rules) o (verdict_of found) × IsOrderExplained rules o found) same told rules (judged_as (Legal count) is).0
+  pub kept_fault : HasFault (IsUnseenAfter rules) (entries_of order) bad.number bad.fault
+  kept_fault = record {
+    before = is.fault.before;
+    entry = is.fault.entry;
+    after = is.fault.after ++ entries_of (drop kept order);
+    history_is =
+        ap entries_of (sym (take-append-drop kept order)) ∙ map-append (λ (t : Timed). t.entry) (take kept order) (drop kept order)
+        ∙ ap (λ es. es ++ entries_of (drop kept order)) is.fault.history_is ∙ append_assoc is.fault.before (is.fault.entry ∷ is.fault.after) (entries_of (drop kept order));
+    numbered = is.fault.numbered;
+    fault = is.fault.fault;
+  }

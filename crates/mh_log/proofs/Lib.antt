@@ -6,6 +6,5 @@ pub mod LateLemmas
 pub mod LinearLemmas
 pub mod LawLemmas
 pub mod ReasonLemmas
-pub mod ReplayLemmas
 pub mod JudgedLemmas
 pub mod TextLemmas

@@ -39,14 +39,6 @@ none_left who [] none = refl
 none_left who (None ∷ slots) none = none_left who slots (rest_none who (length slots) None slots none)
 none_left who (Some first ∷ slots) none = passed who first (left_in slots) None (none 0 (omega arith)) (none_left who slots (rest_none who (length slots) (Some first) slots none))
 
--- a slot that is emptied has no command of any session
-pub emptied : (who : ℕ) (slots : List (Option Timed)) (place k : ℕ) → has_of who (get_or slots k None) ≡ false → has_of who (get_or (set slots place None) k None) ≡ false
-emptied who [] place k none = none
-emptied who (slot ∷ slots) zero zero none = refl
-emptied who (slot ∷ slots) zero (suc k) none = none
-emptied who (slot ∷ slots) (suc place) zero none = none
-emptied who (slot ∷ slots) (suc place) (suc k) none = emptied who slots place k none
-
 pub taken_at : (who : ℕ) (seen slots : List (Option Timed)) (place : ℕ) (slot found after : Option Timed) → seen ≡ slots → HasNoneBefore who place seen → (place < length seen → has_of who (get_or seen place None) ≡ true)
     → slot ≡ get_or slots place slot → place < length slots → found ≡ slot → after ≡ None
     → IfSome found (λ timed. take_first who (left_in slots) ≡ Some (record { command = timed; others = left_in (set slots place after) }))

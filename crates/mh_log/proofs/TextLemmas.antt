@@ -1,8 +1,9 @@
 -- Whole texts of logs with an order: what was found of what was read of a source is true of its whole text.
-use Rattle.std.proofs.Common.{◌≡◌, ◌∙◌, ℕ, ◌≤◌, nat_lt, Bool, true, false, Option, Some, None, List, [], ◌++◌, length, ap, sym, refl, subst, append-nil, length-append, arith}
+use Rattle.std.proofs.Common.{◌≡◌, ◌∙◌, ℕ, ◌≤◌, nat_lt, Bool, true, false, Option, List, [], ◌++◌, length, ap, sym, refl, subst, append-nil, length-append, arith}
 use Rattle.std.specs.Io.KnownBytes.{Consumes, IsAtEnd}
 use Rattle.std.proofs.lemmas.Bool.Decides.{nat_tests}
-use Rattle.mh_sessions.specs.OfJudging.Judged.{IsVerdictOn}
+use Rattle.mh_sessions.specs.OfJudging.Judged.{Explains, IsVerdictOn}
+use Rattle.mh_sessions.proofs.OfJudging.ExplainedLemmas.{explains}
 use Rattle.mh_sessions.proofs.OfJudging.JudgedLemmas.{GoesBy}
 use Rattle.mh_sessions.proofs.OfJudging.OfScript.SourceLemmas.{IsBounded}
 use Rattle.mh_model.specs.declared.config.Rules.{Rules}
@@ -11,12 +12,11 @@ use Rattle.mh_model.specs.declared.history.Verdict.TheVariants.{Refused}
 use Rattle.mh_model.specs.Bytes.{Text}
 use Rattle.mh_model.specs.HistoryTexts.{IsJudged}
 use Rattle.mh_model.specs.Script.{Reading, BadLine, Means}
-use Rattle.mh_log.specs.declared.judgement.LogJudgement.{LogJudgement}
-use Rattle.mh_log.specs.declared.judgement.LogJudgement.TheVariants as judgement
+use Rattle.mh_sessions.specs.OfJudging.Judgement.TheVariants as judgement
 use Rattle.mh_log.specs.declared.reason.LogReason.{LogReason}
 use Rattle.mh_log.specs.declared.reason.LogReason.TheVariants as reason
 use Rattle.mh_log.specs.declared.timed.Timed.{Timed}
-use Rattle.mh_log.specs.Judgements.{ExplainsLog, IsLogExplained, IsOrderExplained, verdict_of}
+use Rattle.mh_log.specs.Judgements.{LogJudgement, IsLogExplained, IsOrderExplained, verdict_of}
 use Rattle.mh_log.specs.Logs.{ordered_reading}
 use Rattle.mh_log.specs.Orders.{IsLegalOrder, IsLogJudged}
 use Rattle.mh_log.specs.Reasons.{IsLogReason}
@@ -85,12 +85,7 @@ module _ (rules : Rules) (text rest : Text) (whole : length text ≤ 2147483648 
   goes (judgement.FirstBad number fault) judged is = subst (λ t. IsLogExplained rules t (judgement.FirstBad number fault)) (same_text (means_short is.0 is.1)) is
 
 pub log_explains : (rules : Rules) (known rest : Option Text) (items text : Text) (found : LogJudgement) → text ≡ items → Consumes known rest items → (length items ≤ 2147483648 → IsAtEnd rest)
-    → IsLogJudged rules text (verdict_of found) → IsLogExplained rules text found → ExplainsLog rules known found
-log_explains rules None rest items text found same consumed whole judged is = record { text = text; is_text = tt; explained = is }
-log_explains rules (Some bytes) None items text found same consumed whole judged is = absurd consumed
-log_explains rules (Some bytes) (Some left) items text found same consumed whole judged is = record {
-  text = bytes;
-  is_text = refl;
-  explained = subst (λ t. IsLogExplained rules t found) (sym consumed)
-      (goes rules items left whole found (subst (λ t. IsLogJudged rules t (verdict_of found)) same judged) (subst (λ t. IsLogExplained rules t found) same is));
-}
+    → IsLogJudged rules text (verdict_of found) → IsLogExplained rules text found → Explains (IsLogExplained rules) known found
+log_explains rules known rest items text found same consumed whole judged is =
+    explains 2147483648 (λ (t : Text) (f : LogJudgement). IsLogJudged rules t (verdict_of f) × IsLogExplained rules t f) (IsLogExplained rules) (λ t more f entire both. goes rules t more entire f both.0 both.1) (λ t f both. both.1)
+    known rest items text found same consumed whole (judged, is)

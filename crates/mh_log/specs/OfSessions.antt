@@ -5,3 +5,4 @@ pub use Rattle.mh_sessions.specs.OfJudging.Judgement
 pub use Rattle.mh_sessions.specs.OfJudging.RunHistory
 pub use Rattle.mh_sessions.specs.declared.sessions_judgement.SessionsJudgement
 pub use Rattle.mh_sessions.specs.declared.tally.Tally
+pub use Rattle.mh_sessions.specs.OfJudging.Judgements

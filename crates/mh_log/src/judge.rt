@@ -2,7 +2,9 @@
 //!
 //! Only the commands before the first late one are shown to the judge of sessions. So the first bad entry is the first
 //! of them that its session may not see, and else the late one.
-ghost use Rattle.std.specs.Prelude.{◌≢◌, ◌≤◌, [], length, take, IfOk, OnErr};
+ghost use Rattle.std.specs.Prelude.{◌≢◌, ◌≤◌, [], length, take, IfOk, IfSome, IfNone, OnErr};
+ghost use Rattle.mh_sessions.specs.OfJudging.Following.{IsBadEntry};
+ghost use Rattle.mh_sessions.specs.Faults.{IsUnseenAfter};
 ghost use Rattle.mh_log.specs.Judgements.{IsOrderExplained, verdict_of};
 ghost use Rattle.mh_log.specs.Orders.{IsLegalOrder, entries_of};
 ghost use Rattle.mh_log.specs.Times.{KeepsTime};
@@ -13,12 +15,14 @@ ghost use Rattle.mh_model.specs.Sessions.{IsLegalForSessions};
 use crate::fault::OrderFault;
 use crate::judgement::LogJudgement;
 use crate::late::{begun_after, first_late};
-use crate::replay::fault_in;
 use crate::timed::Timed;
 use mh_model::config::Rules;
-use mh_model::history::Verdict;
+use mh_model::history::{Entry, Version};
 use mh_model::memory::NoMemory;
-use mh_sessions::judge::SessionsJudge;
+use mh_sessions::mh_judging::bad_entry::BadEntry;
+use mh_sessions::mh_judging::following::Follower;
+use mh_sessions::mh_judging::judgement::Judgement;
+use mh_sessions::watch::Watch;
 use std::alloc::Global;
 
 /// How many commands come before the first late one, and the judgement if sessions may see these.
@@ -31,7 +35,7 @@ fn judge_times(order: &[Timed]) -> (usize, LogJudgement)
     match first_late(order) {
         Some(place) => {
             let before = begun_after(order, place);
-            let judgement = LogJudgement::FirstBad {
+            let judgement = Judgement::FirstBad {
                 number: place as u64 + 1,
                 fault: OrderFault::Late(before as u64 + 1),
             };
@@ -39,41 +43,48 @@ fn judge_times(order: &[Timed]) -> (usize, LogJudgement)
         }
         None => {
             let count = order.len();
-            (count, LogJudgement::Legal(count as u64))
+            (count, Judgement::Legal(count as u64))
         }
     }
 }
 
-/// The verdict on the entries of an order by what their sessions see.
-fn seen_verdict(alloc: Global, rules: Rules, order: &[Timed]) -> Result<Verdict, NoMemory>
-    ensures verdict { IfOk result (IsJudged (IsLegalForSessions rules) (entries_of order.now)) }
+/// Follows the commands of an order, up to the first that its session may not see.
+fn follow_order(alloc: Global, rules: Rules, order: &[Timed]) -> Result<Option<BadEntry>, NoMemory>
+    ensures right { IfOk result (λ found. IfNone found (IsLegalForSessions rules (entries_of order.now))) }
+    ensures wrong { IfOk result (λ found. IfSome found (IsBadEntry (IsLegalForSessions rules) (IsUnseenAfter rules) (entries_of order.now))) }
     ensures memory { OnErr result (order.now ≢ []) }
 {
-    let mut judge = SessionsJudge::open(alloc, rules);
+    let mut watch = Watch::open(alloc, Version::One, true, rules);
     for timed in order {
-        judge.entry(&timed.entry)?;
+        let reply = timed.entry.reply.copy()?;
+        let entry = Entry {
+            event: timed.entry.event,
+            reply,
+        };
+        if let Some(bad) = watch.follow(entry)? {
+            return Ok(Some(bad));
+        }
     }
-    Ok(judge.verdict())
+    Ok(None)
 }
 
-/// The judgement on an order. Up to its first entry that its session may not see it is followed twice.
+/// The judgement on an order, of which each command is followed once.
 #[tactic(auto, using(crate::proofs::JudgedLemmas::some_order))]
 pub(crate) fn judge_order(
     alloc: Global,
     rules: Rules,
-    order: Vec<Timed>,
+    order: &[Timed],
 ) -> Result<LogJudgement, NoMemory>
-    ensures verdict { IfOk result (λ judgement. IsJudged (IsLegalOrder rules) order.items (verdict_of judgement)) }
-    ensures explained { IfOk result (IsOrderExplained rules order.items) }
-    ensures memory { OnErr result (order.items ≢ []) }
+    ensures verdict { IfOk result (λ judgement. IsJudged (IsLegalOrder rules) order.now (verdict_of judgement)) }
+    ensures explained { IfOk result (IsOrderExplained rules order.now) }
+    ensures memory { OnErr result (order.now ≢ []) }
 {
-    let (kept, judgement) = judge_times(&order);
-    match seen_verdict(alloc, rules, &order[..kept])? {
-        Verdict::FirstBad(number) => {
-            let fault = OrderFault::Unseen(fault_in(alloc, rules, order, number)?);
-            Ok(LogJudgement::FirstBad { number, fault })
-        }
-        Verdict::Legal(_) => Ok(judgement),
-        Verdict::Refused(_) => unreachable!(),
+    let (kept, judgement) = judge_times(order);
+    match follow_order(alloc, rules, &order[..kept])? {
+        Some(BadEntry { number, fault }) => Ok(Judgement::FirstBad {
+            number,
+            fault: OrderFault::Unseen(fault),
+        }),
+        None => Ok(judgement),
     }
 }

@@ -1,31 +1,7 @@
-//! What is found of a log with an order: a verdict, with the reason for a bad line or what is wrong with a bad entry.
-ghost use Rattle.std.specs.Prelude.{◌≡◌};
-ghost use Rattle.mh_log.specs.Judgements.{verdict_of};
-
+//! What is found of a log with an order.
 use crate::fault::OrderFault;
 use crate::reason::LogReason;
-use mh_model::history::Verdict;
+use mh_sessions::mh_judging::judgement::Judgement;
 
-/// A verdict on a log with an order, with what is wrong with it.
-#[derive(Debug, Drop)]
-pub enum LogJudgement {
-    /// How many commands it has.
-    Legal(u64),
-    /// The first bad line, counted from 1; 0 if the text is too long.
-    Refused { line: u64, reason: LogReason },
-    /// The first bad entry of the order, counted from 1.
-    FirstBad { number: u64, fault: OrderFault },
-}
-
-impl LogJudgement {
-    /// Without what is wrong.
-    pub fn verdict(&self) -> Verdict
-        ensures { result ≡ verdict_of self.now }
-    {
-        match self {
-            LogJudgement::Legal(count) => Verdict::Legal(*count),
-            LogJudgement::Refused { line, .. } => Verdict::Refused(*line),
-            LogJudgement::FirstBad { number, .. } => Verdict::FirstBad(*number),
-        }
-    }
-}
+/// A verdict on a log with an order, with the reason for its bad line or what is wrong with a bad entry of the order.
+pub type LogJudgement = Judgement<LogReason, OrderFault>;

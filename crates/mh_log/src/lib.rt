@@ -15,6 +15,5 @@ mod order;
 mod pending;
 pub mod reason;
 mod reasons;
-mod replay;
 pub mod texts;
 pub mod timed;

@@ -6,10 +6,10 @@
 //! when it is blamed. Memory is refused only for bytes that the source gave, or for a text that begins with a command.
 ghost use Rattle.std.specs.Prelude.{◌≢◌, ◌<◌, ◌^◌, IfOk, OnErr, IsErrOf};
 ghost use Rattle.std.specs.Io.KnownBytes.{Keeps};
-ghost use Rattle.mh_sessions.specs.OfJudging.Judged.{BeginsToJudge, Judges};
+ghost use Rattle.mh_sessions.specs.OfJudging.Judged.{BeginsToJudge, Explains, Judges};
 ghost use Rattle.mh_sessions.specs.OfJudging.OfScript.Texts.{Blames, LeavesSource, WantsMemory};
 ghost use Rattle.mh_log.specs.Beginnings.{BeginsWithCommand};
-ghost use Rattle.mh_log.specs.Judgements.{ExplainsLog, IsLogExplained, verdict_of};
+ghost use Rattle.mh_log.specs.Judgements.{IsLogExplained, verdict_of};
 ghost use Rattle.mh_log.specs.Orders.{IsLogJudged};
 
 use crate::judge::judge_order;
@@ -19,6 +19,7 @@ use crate::reasons::log_reason;
 use mh_history::record::RECORD_BYTES;
 use mh_model::config::Rules;
 use mh_model::memory::NoMemory;
+use mh_sessions::mh_judging::judgement::Judgement;
 use mh_sessions::mh_judging::mh_script::fault::ScriptFault;
 use mh_sessions::mh_judging::mh_script::texts::{read_whole, write_verdict};
 use mh_text::device::DeviceFailed;
@@ -35,8 +36,8 @@ pub fn judge_log(alloc: Global, rules: Rules, text: &[u8]) -> Result<LogJudgemen
     ensures memory { OnErr result (BeginsWithCommand text.now) }
 {
     match parse_ordered(alloc, text) {
-        Ok(order) => judge_order(alloc, rules, order),
-        Err(TextError::Line(line)) => Ok(LogJudgement::Refused {
+        Ok(order) => judge_order(alloc, rules, order.as_slice()),
+        Err(TextError::Line(line)) => Ok(Judgement::Refused {
             line,
             reason: log_reason(text, line),
         }),
@@ -55,7 +56,7 @@ pub fn check_log<S: Source, W: Sink>(
     requires source_count { S.failures source.old < 2 ^ 62 }
     requires sink_count { W.failures sink.old < 2 ^ 62 }
     ensures judged { IfOk result (λ judgement. Judges (IsLogJudged rules) (S.rest source.old) (W.written sink.old) (W.written sink.new) (verdict_of judgement)) }
-    ensures explained { IfOk result (ExplainsLog rules (S.rest source.old)) }
+    ensures explained { IfOk result (Explains (IsLogExplained rules) (S.rest source.old)) }
     ensures begun { IsErrOf result ScriptFault.Write → BeginsToJudge (IsLogJudged rules) (S.rest source.old) (W.written sink.old) (W.written sink.new) }
     ensures never_full { result ≢ Err ScriptFault.HistoryFull }
     ensures unread { IsErrOf result ScriptFault.Read → Keeps (W.written sink.old) (W.written sink.new) }

@@ -93,15 +93,6 @@ module _ (recall : EventsKeepWhatIsRecalled) (config : Config) where
     recalls = subst (Recalls (machine_after (first_machine config) is.events)) (sym machine) (recall.forgetting (machine_after (first_machine config) is.events) old.machine is.recalls);
   }
 
--- one whose machine and count are the same runs too
-pub same-running : (config : Config) (old new : Running) → IsRunning config old → new.machine ≡ old.machine → new.done ≡ old.done → IsRunning config new
-same-running config old new is machine done = record {
-  events = is.events;
-  few = omega (arith, is.few, done);
-  count = is.count ∙ sym done;
-  recalls = subst (Recalls (machine_after (first_machine config) is.events)) (sym machine) is.recalls;
-}
-
 -- a report of its trace keeps the promise of its configuration
 pub report-promises : (law : ForgottenTracesKeepTheirPromise) (config : Config) (running : Running) → IsRunning config running → (window : ℕ) (report : Report) → report ≡ report_on config running.machine.trace window → KeepsPromise running.machine.heap.config report
 report-promises law config running is window report same =

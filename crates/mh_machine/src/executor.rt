@@ -14,7 +14,7 @@ use mh_model::cycle::Spent;
 use mh_model::deed::QuantumEnd;
 use mh_model::reply::Reply;
 use mh_paged::mh_heap::heap::Heap;
-use mh_paged::mh_scan::scan::Scanner;
+use mh_paged::mh_scan::scan::{NoScan, Scanner};
 use mh_paged::paged::PagedHeap;
 
 /// Performs commands and runs quanta on the heap of pages.
@@ -66,7 +66,7 @@ impl Executor for Account {
     }
 
     fn quantum(&mut self, heap: &mut PagedHeap) -> Spent {
-        let units = heap.quantum_told(&mut self.ran);
+        let units = heap.quantum_told(&mut NoScan, &mut self.ran);
         let phase = heap.phase();
         self.quantum = Some(QuantumEnd { units, phase });
         units

@@ -17,4 +17,3 @@ pub use mh_scan::mh_blocks;
 
 pub mod batch;
 pub mod mark;
-pub mod told;

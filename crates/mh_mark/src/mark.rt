@@ -1,9 +1,12 @@
 //! Marking through one block. Table, grey list and cost are the model's. The first grey block is found before its step,
 //! since its number of references says what the step costs.
-ghost use Rattle.std.specs.Prelude.{◌≡◌, ℕ, ◌<◌, true, IsSome, length};
+ghost use Rattle.std.specs.Prelude.{◌≡◌, ℕ, ◌<◌, true, false, IsSome, [], ◌∷◌, length};
+ghost use Rattle.mh_model.specs.declared.deed.Deed.TheVariants as deed;
 ghost use Rattle.mh_model.specs.Pages.{block_at};
-ghost use Rattle.mh_model.specs.Table.{references_at, reference_at, LeadsHome};
+ghost use Rattle.mh_model.specs.Table.{references_at, reference_at, target_of, LeadsHome};
 ghost use Rattle.mh_model.specs.Collector.{mark_reference, mark_references, mark_step};
+ghost use Rattle.mh_model.specs.Deeds.{name_at, edge_of, reference_deeds, mark_deeds};
+ghost use Rattle.mh_deeds.specs.Logs.{Told};
 ghost use Rattle.mh_grey.specs.OfPages.Addresses.{address_in};
 ghost use Rattle.mh_grey.specs.Queue.{is_in};
 ghost use Rattle.mh_grey.specs.Shading.{marking, AreMarked};
@@ -11,8 +14,10 @@ ghost use Rattle.mh_mark.specs.First.{IsFirstGrey};
 ghost use Rattle.mh_mark.specs.Kept.{KeepsMarking};
 ghost use Rattle.mh_mark.specs.Walkable.{LeadHome, IsWalkable};
 
+use mh_deeds::log::{Log, NoLog};
 use mh_grey::grey::Grey;
 use mh_grey::mh_pages::address::Address;
+use mh_model::deed::{Deed, Edge, PartName};
 use mh_model::place::Place;
 use mh_scan::mh_blocks::blocks::Blocks;
 use std::marker::Model;
@@ -57,8 +62,58 @@ fn mark_reference(blocks: &mut Blocks, grey: &mut Grey, cycle: u64, address: Add
     }
 }
 
-/// Resolves the references of the block at an address in order, all of them, writes each back and shades it.
-fn mark_references(blocks: &mut Blocks, grey: &mut Grey, cycle: u64, address: Address, count: usize)
+/// A reference of the block at an address, as it stands before it is marked through.
+fn edge_at(blocks: &Blocks, address: Address, index: usize) -> Edge
+    requires at { address ≡ address_in blocks.now address.place }
+    requires there { index < length (references_at blocks.now address.place) }
+    requires home { LeadsHome blocks.now (reference_at blocks.now address.place index) }
+    ensures { result ≡ record { reference = reference_at blocks.now address.place index; target = target_of blocks.now (reference_at blocks.now address.place index); is_shaded = false } }
+{
+    Edge {
+        reference: blocks.reference_from(address, index),
+        target: blocks.load_ref(address.place, index),
+        is_shaded: false,
+    }
+}
+
+/// The same, and tells how the reference was found. It made its target grey if the grey list grew by it.
+fn mark_edge<L: Log>(
+    blocks: &mut Blocks,
+    grey: &mut Grey,
+    cycle: u64,
+    address: Address,
+    index: usize,
+    log: &mut L,
+)
+    requires pages { grey.old.pages ≡ length blocks.old }
+    requires at { address ≡ address_in blocks.old address.place }
+    requires there { index < length (references_at blocks.old address.place) }
+    requires home { LeadsHome blocks.old (reference_at blocks.old address.place index) }
+    requires marked { AreMarked blocks.old cycle grey.old.places }
+    ensures table { blocks.new ≡ (mark_reference (marking blocks.old grey.old.places cycle) address.place index (reference_at blocks.old address.place index)).table }
+    ensures grey { grey.new ≡ record { places = (mark_reference (marking blocks.old grey.old.places cycle) address.place index (reference_at blocks.old address.place index)).grey; pages = grey.old.pages } }
+    ensures told { Told L.has log.old (deed.Reference index (edge_of blocks.old (reference_at blocks.old address.place index) grey.old.places grey.new.places) ∷ []) log.new }
+{
+    if log.is_silent() {
+        mark_reference(blocks, grey, cycle, address, index);
+        return;
+    }
+    let before = grey.len();
+    let mut edge = edge_at(blocks, address, index);
+    mark_reference(blocks, grey, cycle, address, index);
+    edge.is_shaded = before < grey.len();
+    log.tell(Deed::Reference { index, edge });
+}
+
+/// Resolves the references of the block at an address in order, all of them, writes each back and shades it, and tells each.
+fn mark_references<L: Log>(
+    blocks: &mut Blocks,
+    grey: &mut Grey,
+    cycle: u64,
+    address: Address,
+    count: usize,
+    log: &mut L,
+)
     requires at { address ≡ address_in blocks.old address.place }
     requires there { IsSome (block_at blocks.old address.place) }
     requires all { count ≡ length (references_at blocks.old address.place) }
@@ -68,9 +123,10 @@ fn mark_references(blocks: &mut Blocks, grey: &mut Grey, cycle: u64, address: Ad
     ensures table { blocks.new ≡ (mark_references (marking blocks.old grey.old.places cycle) address.place 0 (references_at blocks.old address.place)).table }
     ensures grey { grey.new ≡ record { places = (mark_references (marking blocks.old grey.old.places cycle) address.place 0 (references_at blocks.old address.place)).grey; pages = grey.old.pages } }
     ensures kept { KeepsMarking (marking blocks.old grey.old.places cycle) (marking blocks.new grey.new.places cycle) }
+    ensures told { Told L.has log.old (reference_deeds (marking blocks.old grey.old.places cycle) address.place 0 (references_at blocks.old address.place)) log.new }
 {
     for index in 0..count {
-        mark_reference(blocks, grey, cycle, address, index);
+        mark_edge(blocks, grey, cycle, address, index, log);
     }
 }
 
@@ -86,7 +142,7 @@ pub fn mark_block(blocks: &mut Blocks, grey: &mut Grey, cycle: u64, place: Place
 {
     let address = blocks.address(place);
     let count = blocks.reference_count_from(address);
-    mark_references(blocks, grey, cycle, address, count);
+    mark_references(blocks, grey, cycle, address, count, &mut NoLog);
 }
 
 /// The first grey block.
@@ -100,15 +156,37 @@ pub fn first_grey(blocks: &Blocks, grey: &Grey) -> FirstGrey
     FirstGrey { address, count }
 }
 
-/// Marks through the first grey block, which is given.
-pub fn mark_step(blocks: &mut Blocks, grey: &mut Grey, cycle: u64, first: FirstGrey)
+/// Which part of which object the block at a place is.
+pub fn name_of(blocks: &Blocks, place: Place) -> PartName
+    requires { IsSome (block_at blocks.now place) }
+    ensures { result ≡ name_at blocks.now place }
+{
+    PartName {
+        birth: blocks.birth(place),
+        part: blocks.part(place),
+    }
+}
+
+/// Marks through the first grey block, which is given, and tells it and each of its references.
+pub fn mark_step<L: Log>(
+    blocks: &mut Blocks,
+    grey: &mut Grey,
+    cycle: u64,
+    first: FirstGrey,
+    log: &mut L,
+)
     requires some { 0 < length grey.old.places }
     requires first { IsFirstGrey blocks.old grey.old.places first }
     requires pages { grey.old.pages ≡ length blocks.old }
     requires walkable { IsWalkable blocks.old cycle grey.old.places }
     ensures table { blocks.new ≡ (mark_step (marking blocks.old grey.old.places cycle)).table }
     ensures grey { grey.new ≡ record { places = (mark_step (marking blocks.old grey.old.places cycle)).grey; pages = grey.old.pages } }
+    ensures told { Told L.has log.old (mark_deeds (marking blocks.old grey.old.places cycle) grey.old.places) log.new }
 {
-    let _ = grey.pop_first();
-    mark_references(blocks, grey, cycle, first.address, first.count);
+    let place = grey.pop_first();
+    if !log.is_silent() {
+        let name = name_of(blocks, place);
+        log.tell(Deed::Mark { place, name });
+    }
+    mark_references(blocks, grey, cycle, first.address, first.count, log);
 }

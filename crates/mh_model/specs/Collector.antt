@@ -43,7 +43,7 @@ is_marked cycle block = block.stamp == cycle
 abbrev pub with_grey : Marking → ℕ → Block → Marking
 with_grey marking place block = record marking { table = with_block marking.table place (Some (record block { stamp = marking.cycle })); grey = marking.grey ++ place ∷ [] }
 
--- the same, if a block is there that isn't marked
+-- the block at a place marked and its place appended to the grey list, if a block is there that isn't marked
 -- from: Yuasa
 abbrev pub shade_block : Marking → ℕ → Option Block → Marking
 shade_block marking place None = marking

@@ -32,11 +32,11 @@ use Rattle.mh_model.specs.Mutator.{HeapState, mutator_step}
 use Rattle.mh_model.specs.Machine.{Machine, is_quantum_due, command_step}
 use Rattle.mh_model.specs.Limits.{root_slots}
 
--- which part of which object a block is
+-- the name of a block: which part of which object it is
 abbrev pub name_of : Block → PartName
 name_of block = record { birth = block.birth; part = block.part }
 
--- which part of which object the block at a place is, and part 0 of birth 0 if none is there
+-- the name of the block at a place, and part 0 of birth 0 if none is there
 abbrev pub name_at : Table Block → ℕ → PartName
 name_at table place = unwrap_or (option_map name_of (block_at table place)) (record { birth = 0; part = 0 })
 
@@ -252,6 +252,6 @@ pub record DeedLog : Type 0 where
   pub deeds : List Deed
   pub is_whole : Bool
 
--- these deeds were added to a log, unless memory was refused for one of them
+-- a log to which deeds were added, unless memory was refused for one of them
 abbrev pub Adds : DeedLog → List Deed → DeedLog → Type 0
 Adds old deeds new = new.is_whole ≡ true → (old.is_whole ≡ true) × (new.deeds ≡ old.deeds ++ deeds)

@@ -56,7 +56,7 @@ pub record IsNeverFull (config : Config) (events : List Event) : Type 0 where
   pub replies : AllByRecursion (λ answer. is_heap_full answer ≡ false) (machine_replies (first_machine config) events)
   pub flagged : LeaveFlagged (first_machine config) events
 
--- these replies to sessions are those of the ever-growing world, which is given all their commands
+-- the replies to sessions are those of the ever-growing world, which is given all their commands
 abbrev pub AnswerAsTheWorld : World → List Event → List Reply → Type 0
 AnswerAsTheWorld world [] answers = Unit {0}
 AnswerAsTheWorld world (event ∷ events) [] = ⊥

@@ -51,7 +51,7 @@ event_turn machine names count seen event =
     (let answer = event_step machine event in answers_line (reply_text answer.reply) (Runs answer.state seen (suc count)))
     else answers_line (codes "refused 8 history full") (Runs machine names count)
 
--- the same of a command in a world
+-- the turn of a command in a world: its reply, and the names seen after it; after the last event of all, a refusal that changes nothing
 abbrev pub command_turn : World → List Text → ℕ → List Text → ℕ → Command → Turn
 command_turn world names count seen who command =
     if nat_lt count most_events then

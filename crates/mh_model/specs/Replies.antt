@@ -107,7 +107,7 @@ item_numbers (item.Page page class_size is_flagged) = page ∷ class_size ∷ []
 item_numbers (item.Block slot birth part) = slot ∷ birth ∷ part ∷ []
 item_numbers (item.Forwarder slot to_page to_slot) = slot ∷ to_page ∷ to_slot ∷ []
 
--- these numbers have at most 64 bits, and so have those of the items of a dump
+-- each of the numbers has at most 64 bits, as have those of the items of a dump
 abbrev pub are_u64 : List ℕ → Bool
 are_u64 [] = true
 are_u64 (n ∷ ns) = nat_lt n u64 && are_u64 ns

@@ -17,18 +17,18 @@ abbrev pub may_be : ℕ → ℕ → Option ℕ → Bool
 may_be least most None = true
 may_be least most (Some number) = is_between least most number
 
--- and so is what is given beside a target
+-- what is given beside a target is within its limits
 abbrev pub is_given_within : Given → Bool
 is_given_within Nothing = true
 is_given_within (Every every) = is_between 1 1000000 every
 is_given_within (Quantum quantum) = is_between least_quantum 1000000 quantum
 
--- and so is how long cycles take
+-- the length that is given for cycles is within its limits
 abbrev pub is_length_within : CycleLength → Bool
 is_length_within (cycles.Quanta quanta) = is_between 1 1000000 quanta
 is_length_within (cycles.Quantum quantum) = is_between least_quantum 1000000 quantum
 
--- and so is after how many events a script asks for a quantum
+-- the number of events after which a script asks for a quantum is within its limits
 abbrev pub is_controls_within : Controls → Bool
 is_controls_within controls.ByChance = true
 is_controls_within (controls.Each events) = is_between 1 1000000 events

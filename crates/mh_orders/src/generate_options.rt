@@ -10,7 +10,7 @@ use mh_model::config::{Config, Rules};
 /// Which controls a script has.
 #[derive(Clone, Copy, Debug, PartialEq, Eq)]
 pub enum Controls {
-    /// Those of its mix, by chance.
+    /// The controls of its mix, by chance.
     ByChance,
     /// A quantum as each event whose number so many divides, and no other control.
     Each(u32),

@@ -5,7 +5,8 @@ use Rattle.mh_model.specs.declared.config.Config.{Config}
 use Rattle.mh_model.specs.declared.reply.Refusal.{Refusal}
 use Rattle.mh_model.specs.Deeds.{Adds, DeedLog, make_deeds, new_deeds}
 use Rattle.mh_model.specs.Mutator.{HeapState}
-use Rattle.mh_deeds.proofs.LogLemmas.{adds-none}
+use Rattle.mh_deeds.specs.Logs.{Has, Told}
+use Rattle.mh_deeds.proofs.LogLemmas.{adds-none, told-adds}
 use Rattle.mh_heap.specs.Outcome.{done_or}
 use Rattle.mh_model.specs.declared.cycle.Phase.{Phase}
 use Rattle.mh_model.specs.Classes.{Part, parts}
@@ -24,7 +25,7 @@ framed-made law config old new phase cursor grey birth stamp references numbers 
 framed-made law config old new phase cursor grey birth stamp references numbers all is {E} (Err full) frame made unchanged = framed-long config old new phase cursor grey frame (ap length unchanged)
 
 -- what a new object tells: its parts, or nothing if it is refused
-pub new-tells : (heap : HeapState) (slot references numbers : ℕ) (old new : DeedLog) (outcome : Result (Unit {0}) Refusal) → OnOk outcome (Adds old (make_deeds heap.collector.table heap.next_birth heap.collector.cycle 0 (parts references numbers)) new) → OnErr outcome (new ≡ old)
+pub new-tells : (heap : HeapState) (slot references numbers : ℕ) (old new : DeedLog) (outcome : Result (Unit {0}) Refusal) → OnOk outcome (Told Has old (make_deeds heap.collector.table heap.next_birth heap.collector.cycle 0 (parts references numbers)) new) → OnErr outcome (new ≡ old)
     → Adds old (new_deeds heap (command.New slot references numbers) (done_or outcome)) new
-new-tells heap slot references numbers old new (Ok done) told quiet = told
+new-tells heap slot references numbers old new (Ok done) told quiet = told-adds old new _ told
 new-tells heap slot references numbers old new (Err refusal) told quiet = subst (λ log. Adds old [] log) (sym quiet) (adds-none old)

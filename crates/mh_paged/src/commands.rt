@@ -6,6 +6,7 @@ ghost use Rattle.mh_model.specs.declared.birth.TheConstants.{LIFE};
 ghost use Rattle.mh_model.specs.declared.command.Command.TheVariants as command;
 ghost use Rattle.mh_model.specs.Classes.{parts};
 ghost use Rattle.mh_model.specs.Deeds.{make_deeds};
+ghost use Rattle.mh_deeds.specs.Logs.{Told};
 ghost use Rattle.mh_laws.specs.Bounds.{CollectorsStayInBounds};
 ghost use Rattle.mh_laws.specs.Commands.{CommandsAreAnswered};
 ghost use Rattle.mh_laws.specs.Snapshots.{CollectorsStaySteady, CommandsKeepTheSnapshot, HeapsStayKept};
@@ -17,7 +18,7 @@ use crate::lent::{
     clear_roots, loaded, make_parts, number, place_of, root, write_number, write_reference,
     write_root,
 };
-use mh_groups::group::PartLog;
+use mh_deeds::log::Log;
 use mh_heap::slots::{board_slot, own_slot};
 use mh_laws::barriers::objects_made_keep_the_snapshot;
 use mh_laws::bounds::collectors_stay_in_bounds;
@@ -47,7 +48,7 @@ fn laws_of_commands()
 /// Each call is the command of its name by the session `who`, and takes no memory.
 impl KeptHeap {
     #[tactic(auto, unfolding(mh_model::specs::Mutator::mutator_step, mh_model::specs::Mutator::heap_effect))]
-    pub fn make<L: PartLog>(
+    pub fn make<L: Log>(
         &mut self,
         who: u8,
         slot: u32,
@@ -58,7 +59,7 @@ impl KeptHeap {
         requires { self.old.next_birth < LIFE }
         ensures step { Steps self.old who (command.New slot references numbers) (done_or result) self.new }
         ensures keeps { KeepsEachWorld self.old self.new }
-        ensures told { OnOk result (L.adds log.old (make_deeds self.old.collector.table self.old.next_birth self.old.collector.cycle 0 (parts references numbers)) log.new) }
+        ensures told { OnOk result (Told L.has log.old (make_deeds self.old.collector.table self.old.next_birth self.old.collector.cycle 0 (parts references numbers)) log.new) }
         ensures quiet { OnErr result (log.new ≡ log.old) }
     {
         let session = self.session(who)?;

@@ -18,11 +18,13 @@ ghost use Rattle.mh_model.specs.Classes.{parts};
 ghost use Rattle.mh_model.specs.Pages.{free_pages};
 ghost use Rattle.mh_model.specs.declared.birth.TheConstants.{LIFE};
 ghost use Rattle.mh_model.specs.Collector.{quantum};
+ghost use Rattle.mh_model.specs.Deeds.{quantum_deeds};
 ghost use Rattle.mh_model.specs.Machine.{dump_pages, quanta_left, stat_on};
 ghost use Rattle.mh_model.specs.Mutator.{first_heap, root_at, shape_at};
 ghost use Rattle.mh_model.specs.Invariant.{IsObjectAt};
 ghost use Rattle.mh_model.specs.declared.reply.Refusal.TheVariants.{Null, NoField, TooLarge, Ended, TooManySessions};
 ghost use Rattle.mh_model.specs.Limits.{root_slots};
+ghost use Rattle.mh_deeds.specs.Logs.{Told};
 ghost use Rattle.mh_laws.specs.Forwarders.{MakesItsForwarders};
 ghost use Rattle.mh_cycle.specs.Snapshots.{ContinuesEach};
 ghost use Rattle.mh_heap.specs.Checks.{tested};
@@ -34,6 +36,7 @@ use mh_classes::parts::{Parts, parts};
 use mh_cycle::cycle::Cycle;
 use mh_cycle::mh_blocks::blocks::Blocks;
 use mh_cycle::mh_scan::scan::Scanner;
+use mh_deeds::log::Log;
 use mh_groups::group::PartPlaces;
 use mh_laws::bounds::{collectors_stay_in_bounds, quantum_starts_one_cycle_at_most};
 use mh_laws::commands::command_keeps_the_course;
@@ -140,8 +143,9 @@ impl KeptHeap {
         self.cycle.start();
     }
 
-    /// Runs a quantum, and answers the units that it spent. Whatever the scanner answers, the quantum is the same.
-    pub fn quantum<S: Scanner>(&mut self, scanner: &mut S) -> Spent
+    /// Runs a quantum, tells its deeds, and answers the units that it spent. Whatever the scanner answers, the quantum is
+    /// the same.
+    pub fn quantum<S: Scanner, L: Log>(&mut self, scanner: &mut S, log: &mut L) -> Spent
         requires { self.old.collector.cycle < LIFE }
         ensures spent { result ≡ (quantum self.old.config self.old.collector).units }
         ensures after { self.new ≡ record (self.old) { collector = (quantum self.old.config self.old.collector).collector } }
@@ -149,11 +153,12 @@ impl KeptHeap {
         ensures keeps { ContinuesEach self.old.collector self.new.collector }
         ensures starts { StartsFromItsView self.old self.new }
         ensures forwarders { MakesItsForwarders self.old.config self.old.collector self.new.collector }
+        ensures told { Told L.has log.old (quantum_deeds self.old.config self.old.collector) log.new }
     {
         heaps_stay_kept();
         collectors_stay_in_bounds();
         collectors_stay_steady();
-        self.cycle.quantum(scanner)
+        self.cycle.quantum(scanner, log)
     }
 
     /// What the collector is at.

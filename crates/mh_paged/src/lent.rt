@@ -11,14 +11,16 @@ ghost use Rattle.mh_model.specs.Machine.{blocks_of, dump_pages};
 ghost use Rattle.mh_model.specs.Mutator.{with_root, with_reference_stored, with_number_stored, with_roots_cleared};
 ghost use Rattle.mh_model.specs.Invariant.{IsFindable, IsSteady};
 ghost use Rattle.mh_model.specs.Limits.{root_slots};
+ghost use Rattle.mh_deeds.specs.Logs.{Told};
 ghost use Rattle.mh_cycle.specs.State.{state_with_collector};
 
 use crate::dump::dump;
 use mh_classes::parts::Parts;
 use mh_cycle::cycle::Cycle;
 use mh_cycle::mh_blocks::blocks::Full;
+use mh_deeds::log::Log;
 use mh_groups::field::{Position, load_int, load_ref, position, store_int};
-use mh_groups::group::{PartLog, PartPlaces, make_group};
+use mh_groups::group::{PartPlaces, make_group};
 use mh_laws::barriers::roots_written_keep_the_snapshot;
 use mh_laws::commands::commands_are_answered;
 use mh_laws::tables::making_keeps_the_pages;
@@ -106,7 +108,7 @@ pub(crate) fn write_number(cycle: &mut Cycle, place: Place, field: usize, number
 }
 
 /// Makes all parts of an object of this shape, or none. The log gets where they were placed.
-pub(crate) fn make_parts<L: PartLog>(
+pub(crate) fn make_parts<L: Log>(
     cycle: &mut Cycle,
     places: &mut PartPlaces,
     shape: Shape,
@@ -120,7 +122,7 @@ pub(crate) fn make_parts<L: PartLog>(
     ensures table { cycle.new ≡ state_with_collector cycle.old (record (cycle.old.collector) { table = cycle.new.collector.table }) }
     ensures full { OnErr result (made_group cycle.old.collector.table birth cycle.old.collector.cycle all.now ≡ None) }
     ensures unchanged { OnErr result (cycle.new ≡ cycle.old) }
-    ensures told { OnOk result (L.adds log.old (make_deeds cycle.old.collector.table birth cycle.old.collector.cycle 0 all.now) log.new) }
+    ensures told { OnOk result (Told L.has log.old (make_deeds cycle.old.collector.table birth cycle.old.collector.cycle 0 all.now) log.new) }
     ensures quiet { OnErr result (log.new ≡ log.old) }
 {
     making_keeps_the_pages();

@@ -17,7 +17,7 @@ ghost use Rattle.mh_paged.specs.Lawful.{IsLawful};
 
 use crate::kept::KeptHeap;
 use mh_cycle::mh_scan::scan::Scanner;
-use mh_groups::group::NoLog;
+use mh_deeds::log::NoLog;
 use mh_heap::heap::Heap;
 use mh_heap::perform::perform;
 use mh_laws::snapshots::commands_keep_the_snapshot;
@@ -209,10 +209,7 @@ impl Heap for PagedHeap {
     }
 
     fn quantum<S: Scanner>(&mut self, scanner: &mut S) -> Spent {
-        let kept = &mut self.kept;
-        let spent = kept.quantum(scanner);
-        kept.lawful();
-        spent
+        self.quantum_told(scanner, &mut NoLog)
     }
 
     fn births(&self) -> u64 {

@@ -1,25 +1,23 @@
 //! The heap of pages as it tells what it does.
 //!
 //! A command of a session tells where the parts of a new object were placed, and then what its barrier made grey. That
-//! is read off the end of the grey list after the command, in the order of shading. A quantum tells its deeds, whose
-//! units are what it spent. Both are otherwise as those that tell nothing.
-ghost use Rattle.std.specs.Prelude.{◌≡◌, ◌<◌, ◌≤◌, Some, drop, length, map, slice_get};
+//! is read off the end of the grey list after the command, in the order of shading. A quantum tells its deeds to any
+//! log. Both are otherwise as those that tell nothing.
+ghost use Rattle.std.specs.Prelude.{◌≡◌, ◌<◌, Some, drop, length, map, slice_get};
 ghost use Rattle.mh_model.specs.declared.birth.TheConstants.{LIFE};
 ghost use Rattle.mh_model.specs.declared.command.Command.TheVariants as command;
 ghost use Rattle.mh_model.specs.declared.deed.Deed.TheVariants as deed;
 ghost use Rattle.mh_model.specs.Classes.{parts};
-ghost use Rattle.mh_model.specs.Collector.{quantum};
-ghost use Rattle.mh_model.specs.Deeds.{Adds, new_deeds, command_deeds, quantum_deeds, units_of};
-ghost use Rattle.mh_laws.specs.Forwarders.{MakesItsForwarders};
-ghost use Rattle.mh_cycle.specs.Snapshots.{ContinuesEach};
-ghost use Rattle.mh_paged.specs.Kept.{KeepsEachWorld, StartsFromItsView, Steps};
+ghost use Rattle.mh_model.specs.Deeds.{Adds, new_deeds, command_deeds, quantum_deeds};
+ghost use Rattle.mh_deeds.specs.Logs.{Told};
+ghost use Rattle.mh_paged.specs.Kept.{KeepsEachWorld, Steps};
 ghost use Rattle.mh_paged.specs.Lawful.{IsQuantum};
 
 use crate::kept::KeptHeap;
 use crate::paged::PagedHeap;
-use mh_deeds::log::Deeds;
-use mh_laws::bounds::collectors_stay_in_bounds;
-use mh_laws::snapshots::{collectors_stay_steady, commands_keep_the_snapshot, heaps_stay_kept};
+use mh_cycle::mh_scan::scan::Scanner;
+use mh_deeds::log::{Deeds, Log};
+use mh_laws::snapshots::commands_keep_the_snapshot;
 use mh_model::command::Command;
 use mh_model::cycle::Spent;
 use mh_model::deed::Deed;
@@ -27,24 +25,6 @@ use mh_model::place::Place;
 use mh_model::reply::Reply;
 
 impl KeptHeap {
-    /// Runs a quantum, and tells its deeds.
-    pub fn quantum_told(&mut self, deeds: &mut Deeds) -> Spent
-        requires { self.old.collector.cycle < LIFE }
-        ensures spent { result ≡ (quantum self.old.config self.old.collector).units }
-        ensures after { self.new ≡ record (self.old) { collector = (quantum self.old.config self.old.collector).collector } }
-        ensures limit { result ≤ self.old.config.quantum }
-        ensures keeps { ContinuesEach self.old.collector self.new.collector }
-        ensures starts { StartsFromItsView self.old self.new }
-        ensures forwarders { MakesItsForwarders self.old.config self.old.collector self.new.collector }
-        ensures told { Adds deeds.old (quantum_deeds self.old.config self.old.collector) deeds.new }
-        ensures sum { units_of (quantum_deeds self.old.config self.old.collector) ≡ result }
-    {
-        heaps_stay_kept();
-        collectors_stay_in_bounds();
-        collectors_stay_steady();
-        self.cycle.quantum_told(deeds)
-    }
-
     /// How many blocks are grey.
     pub fn grey_count(&self) -> usize
         ensures { result ≡ length self.now.collector.grey }
@@ -75,14 +55,13 @@ impl KeptHeap {
 /// The same of the heap as its sessions see it, with what its commands do.
 impl PagedHeap {
     /// Runs a quantum, and tells its deeds.
-    pub fn quantum_told(&mut self, deeds: &mut Deeds) -> Spent
+    pub fn quantum_told<S: Scanner, L: Log>(&mut self, scanner: &mut S, log: &mut L) -> Spent
         requires { self.old.kept.collector.cycle < LIFE }
         ensures collects { IsQuantum self.old.kept result self.new.kept }
-        ensures told { Adds deeds.old (quantum_deeds self.old.kept.config self.old.kept.collector) deeds.new }
-        ensures sum { units_of (quantum_deeds self.old.kept.config self.old.kept.collector) ≡ result }
+        ensures told { Told L.has log.old (quantum_deeds self.old.kept.config self.old.kept.collector) log.new }
     {
         let kept = &mut self.kept;
-        let spent = kept.quantum_told(deeds);
+        let spent = kept.quantum(scanner, log);
         kept.lawful();
         spent
     }

@@ -1,5 +1,5 @@
 -- Words of one block written one after another.
-use Rattle.std.proofs.Common.{◌≡◌, ℕ, ◌≤◌, Option, Some, None, is_some, IsSome, option_map, unwrap_or, List, [], length, set, ap, ◌∙◌, arith, refl}
+use Rattle.std.proofs.Common.{◌≡◌, ℕ, ◌≤◌, Option, Some, None, is_some, IsSome, option_map, unwrap_or, List, [], length, set, ap, ◌∙◌, arith}
 use Rattle.std.proofs.lemmas.Bool.{false≢true}
 use Rattle.std.proofs.lemmas.List.{length-set}
 use Rattle.mh_model.specs.Pages.{Table, block_at}
@@ -22,10 +22,3 @@ header_after table new place index word is has =
       there = ap is_some after;
       four = omega (arith, ap (λ o. length {A = ℕ} (unwrap_or o [])) after, length-set block index word, four);
     }
-
-pub four_after : (table new : Table (List ℕ)) (place index word : ℕ) → new ≡ with_word table place index word → 4 ≤ length (words_at table place) → 4 ≤ length (words_at new place)
-four_after table new place index word is four = go (block_at table place) refl
-  where
-    go : (o : Option (List ℕ)) → block_at table place ≡ o → 4 ≤ length (words_at new place)
-    go None e = absurd (omega (arith, four, ap (λ b. length {A = ℕ} (unwrap_or b [])) e))
-    go (Some block) e = (header_after table new place index word is (record { there = ap is_some e; four = four })).four

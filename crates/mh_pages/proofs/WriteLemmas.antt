@@ -2,7 +2,6 @@
 use Rattle.std.proofs.Common.{◌≡◌, ◌≢◌, ℕ, suc, ◌+◌, ◌-◌, ◌*◌, ◌/◌, ◌%◌, ◌^◌, ◌<◌, ◌≤◌, ◌==◌, ◌⊎◌, inl, inr, Option, Some, None, option_map, List, length, get_or, set, replicate, refl, ap, ◌∙◌, sym, arith, get_or-set_same, get_or-set_other}
 use Rattle.std.proofs.lemmas.Bool.{cases_lt}
 use Rattle.std.proofs.lemmas.List.{length-set}
-use Rattle.std.proofs.lemmas.Nat.{same_from_place}
 use Rattle.std.proofs.Math.Nat.{mul-le-mul_left, mul-le-mul_right}
 use Rattle.mh_model.specs.Classes.{slots_in}
 use Rattle.mh_model.specs.Pages.{Table, page_with, with_block}
@@ -39,14 +38,6 @@ fits_slot size slot some fits = go (256 / size) (256 % size) (omega arith) (omeg
           let rows : size * q ≤ size * slot = mul-le-mul_left size above in
           absurd (omega (arith, rows))
     ]
-
--- the slot of a word of its page
-pub slot_of_word : (size slot offset : ℕ) → 0 < size → slot * size ≤ offset → offset < slot * size + size → offset / size ≡ slot
-slot_of_word size slot offset some from under =
-    (same_from_place (offset / size) (offset % size) slot (offset - slot * size) size (omega arith) (omega arith) (split (offset / size) (offset % size) (omega arith))).0
-  where
-    split : (q r : ℕ) → size * q + r ≡ offset → q * size + r ≡ slot * size + (offset - slot * size)
-    split q r e = let turned : size * q ≡ q * size = omega arith in omega (arith, turned)
 
 -- the words from one on to before another set to 0, or one of them written
 pub zeroed_inside : (old new : List ℕ) (first end : ℕ) → IsZeroed old new first end → AgreeOutside old new first end

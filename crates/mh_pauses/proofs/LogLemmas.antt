@@ -5,10 +5,10 @@ use Rattle.std.proofs.lemmas.Bool.Decides.{nat_tests}
 use Rattle.std.proofs.lemmas.List.{length-append, length-replicate}
 use Rattle.mh_model.specs.declared.birth.TheConstants.{LIFE}
 use Rattle.mh_model.specs.Bytes.{Text}
-use Rattle.mh_model.specs.Script.{BadLine, Means}
+use Rattle.mh_model.specs.Script.{BadLine}
 use Rattle.mh_model.specs.Trace.{TraceState}
 use Rattle.mh_history.specs.Beginnings.{TakesEntry, entries_left}
-use Rattle.mh_history.proofs.LineLemmas.{Walked, walked_more, walked_start}
+use Rattle.mh_history.proofs.LineLemmas.{Walked, walked_more}
 use Rattle.mh_report.specs.declared.segment.Unit.{Unit}
 use Rattle.mh_report.specs.Segments.{letter_of}
 use Rattle.mh_text.specs.Pieces.{Lines, lines_from}
@@ -45,9 +45,6 @@ pub record HasTraced (old now : Lines) (kept : Traced) : Type 0 where
   pub trace : IsTraceOf seen kept
   pub bounded : IsShort kept.trace.trace
 
-pub traced_none : (old : Lines) (kept : Traced) → IsTraceOf [] kept → IsShort kept.trace.trace → HasTraced old old kept
-traced_none old kept is bounded = record { seen = []; walked = walked_start line_as_pause old; trace = is; bounded = bounded }
-
 pub traced_more : (old mid new : Lines) (before after : Traced) (line : PauseLine) → HasTraced old mid before → TakesEntry line_as_pause mid new line → ((lines : List PauseLine) → IsTraceOf lines before → IsTraceOf (lines ++ line ∷ []) after)
     → IsShort after.trace.trace → HasTraced old new after
 traced_more old mid new before after line has took traces bounded = record {
@@ -59,33 +56,12 @@ traced_more old mid new before after line has took traces bounded = record {
 
 -- Texts ------------------------------------------------------------------------------------------
 
-pub too_long : (text : Text) → 2147483648 < length text → pause_reading text ≡ BadLine 0
-too_long [] long = absurd (omega (arith, long))
-too_long (byte ∷ text) long =
-    let test : nat_lt 2147483648 (length (byte ∷ text)) ≡ true = grind (arith, nat_tests) in
-    ap (λ b. if b then BadLine 0 else bounded (entries_left line_as_pause (lines_from 1 (byte ∷ text)))) test
-
-pub empty : (text : Text) → length text ≡ 0 → pause_reading text ≡ BadLine 1
-empty [] none = refl
-empty (byte ∷ text) none = absurd (omega (arith, none))
-
 -- a text that is neither is read by its lines
 pub by_lines : (text : Text) → length text ≤ 2147483648 → (length text ≡ 0 → ⊥) → pause_reading text ≡ bounded (entries_left line_as_pause (lines_from 1 text))
 by_lines [] short some = absurd (some refl)
 by_lines (byte ∷ text) short some =
     let test : nat_lt 2147483648 (length (byte ∷ text)) ≡ false = grind (arith, nat_tests) in
     ap (λ b. if b then BadLine 0 else bounded (entries_left line_as_pause (lines_from 1 (byte ∷ text)))) test
-
-pub means_trace : (lines : List PauseLine) (trace : TraceState) → IsTraceIf true lines trace → IsShort trace → bounded (Means lines) ≡ Means trace.letters
-means_trace lines trace is short =
-    let same = ap length is in
-    let test : nat_lt (length (letters_of_lines lines)) LIFE ≡ true = grind (arith, nat_tests, same, short.short) in
-    ap (λ b. if b then Means (letters_of_lines lines) else BadLine 0) test ∙ ap Means (sym is)
-
-pub means_none : (lines : List PauseLine) → LIFE ≤ length (letters_of_lines lines) → bounded (Means lines) ≡ BadLine 0
-means_none lines long =
-    let test : nat_lt (length (letters_of_lines lines)) LIFE ≡ false = grind (arith, nat_tests) in
-    ap (λ b. if b then Means (letters_of_lines lines) else BadLine 0) test
 
 -- Cases ------------------------------------------------------------------------------------------
 

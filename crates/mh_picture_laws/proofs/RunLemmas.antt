@@ -14,7 +14,7 @@ use Rattle.mh_laws.proofs.runs.EveryMoment.{event_step-keeps}
 use Rattle.mh_laws.proofs.snapshots.SteadyStates.{collectors-steady, heaps-kept}
 use Rattle.mh_laws.proofs.snapshots.RunningCycles.{moments_keep}
 use Rattle.mh_picture_laws.specs.Picture.{drawn_of, picture_of, empty_picture, with_table, drawn_all, drawn_quantum, drawn_account, accounts_of, drawn_run, pictured_dump, pictured_stat}
-use Rattle.mh_picture_laws.specs.Laws.{EventsTellThePicture, RunsTellThePicture}
+use Rattle.mh_picture_laws.specs.Laws.{RunsTellThePicture}
 use Rattle.mh_table_laws.proofs.TableMapLemmas.{free-table_map}
 use Rattle.mh_picture_laws.proofs.QuantumLemmas.{quanta-tell}
 use Rattle.mh_picture_laws.proofs.CommandLemmas.{commands-tell}
@@ -63,9 +63,6 @@ event-drawn machine (event.Control control.Quantum) keeps = go (machine.heap.con
     go true = quantum_run-drawn machine keeps
     go false = refl
 event-drawn machine (event.Control asked) keeps = refl
-
-pub events-tell : EventsTellThePicture
-events-tell = record { half = half-drawn; whole = event-drawn }
 
 -- Runs -------------------------------------------------------------------------------------------
 

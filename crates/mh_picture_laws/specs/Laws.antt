@@ -8,10 +8,10 @@ use Rattle.mh_model.specs.declared.config.Config.{Config}
 use Rattle.mh_model.specs.declared.reply.Reply.TheVariants as reply
 use Rattle.mh_model.specs.Collector.{Collector, collector_step, quantum}
 use Rattle.mh_model.specs.Mutator.{HeapState, mutator_step}
-use Rattle.mh_model.specs.Machine.{Machine, first_machine, half_step, event_step, machine_after, dump_pages, stat_on}
+use Rattle.mh_model.specs.Machine.{first_machine, half_step, event_step, machine_after, dump_pages, stat_on}
 use Rattle.mh_model.specs.Deeds.{step_deeds, quantum_deeds, command_deeds, account_of}
 use Rattle.mh_model.specs.Invariant.{IsKeeping, IsSteady}
-use Rattle.mh_picture_laws.specs.Picture.{picture_of, empty_picture, drawn_all, drawn_account, accounts_of, drawn_run, pictured_dump, pictured_stat}
+use Rattle.mh_picture_laws.specs.Picture.{picture_of, empty_picture, drawn_all, accounts_of, drawn_run, pictured_dump, pictured_stat}
 
 -- The deeds of a step of a steady collector draw the picture after it, whether the quantum has moved a block or not
 abbrev pub StepsTellThePicture : Type 0
@@ -24,12 +24,6 @@ QuantaTellThePicture = (config : Config) (collector : Collector) → IsSteady co
 -- The deeds of a command of a session on a kept heap draw the picture after it, also if it is refused
 abbrev pub CommandsTellThePicture : Type 0
 CommandsTellThePicture = (heap : HeapState) (who : ℕ) (command : Command) → IsKeeping heap → picture_of (mutator_step heap who command).state.collector ≡ drawn_all (picture_of heap.collector) (command_deeds heap who command)
-
--- The account of an event draws the picture after it: first the deeds of its command, which draw that of its half step, and then those of its
--- quantum. The heap before it is a kept one
-pub record EventsTellThePicture : Type 0 where
-  pub half : (machine : Machine) (event : Event) → IsKeeping machine.heap → picture_of (half_step machine event).heap.collector ≡ drawn_all (picture_of machine.heap.collector) (account_of machine event).command
-  pub whole : (machine : Machine) (event : Event) → IsKeeping machine.heap → picture_of (event_step machine event).state.heap.collector ≡ drawn_account (picture_of machine.heap.collector) (account_of machine event)
 
 -- For every configuration and every list of events, the accounts draw the picture of the machine's heap, from the empty picture on, half moments
 -- included. The replies to the controls `dump` and `stat` are the dump and the counts of what is drawn

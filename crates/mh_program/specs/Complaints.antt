@@ -8,9 +8,8 @@ use Rattle.mh_show.specs.OfCurve.Broken as promises
 use Rattle.mh_show.specs.OfCurve.LongPause.{LongPause}
 use Rattle.mh_show.specs.OfCurve.ShortStretch.{ShortStretch}
 use Rattle.mh_windows.specs.declared.floor.BrokenFloor.{BrokenFloor}
-use Rattle.mh_log.specs.declared.judgement.LogJudgement.{LogJudgement}
-use Rattle.mh_log.specs.declared.judgement.LogJudgement.TheVariants as log
-use Rattle.mh_log.specs.OfSessions.Judgement.{Judgement}
+use Rattle.mh_log.specs.Judgements.{LogJudgement}
+use Rattle.mh_log.specs.OfSessions.Judgements.{HistoryJudgement}
 use Rattle.mh_log.specs.OfSessions.Judgement.TheVariants as judgement
 use Rattle.mh_log.specs.OfSessions.SessionsJudgement.{SessionsJudgement}
 use Rattle.mh_log.specs.OfSessions.Tally.{Tally}
@@ -114,7 +113,7 @@ SaysSized old new (size.Refused refusal) = SaysRefusal old new refusal
 SaysSized old new ended = SaysNothing old new
 
 -- of a history: nothing if it is legal, and else where and why it isn't
-abbrev pub SaysJudgement : ErrorStream → ErrorStream → Judgement → Type 0
+abbrev pub SaysJudgement : ErrorStream → ErrorStream → HistoryJudgement → Type 0
 SaysJudgement old new (judgement.Legal count) = SaysNothing old new
 SaysJudgement old new (judgement.Refused line reason) = SaysQuoted old new (IsComplaint (line_place line)) (line_text (codes "metroheap: the history is outside the grammar"))
 SaysJudgement old new (judgement.FirstBad number fault) = SaysQuoted old new (IsComplaint (entry_place number)) (line_text (codes "metroheap: an entry is bad"))
@@ -134,9 +133,9 @@ SaysSeen old new found = (between : ErrorStream) × SaysJudgement old between fo
 
 -- of a log: nothing if its order is legal, and else where and why it isn't
 abbrev pub SaysLog : ErrorStream → ErrorStream → LogJudgement → Type 0
-SaysLog old new (log.Legal count) = SaysNothing old new
-SaysLog old new (log.Refused line reason) = SaysQuoted old new (IsComplaint (line_place line)) (line_text (codes "metroheap: the log is outside the grammar"))
-SaysLog old new (log.FirstBad number fault) = SaysQuoted old new (IsComplaint (order_place number)) (line_text (codes "metroheap: an entry is bad"))
+SaysLog old new (judgement.Legal count) = SaysNothing old new
+SaysLog old new (judgement.Refused line reason) = SaysQuoted old new (IsComplaint (line_place line)) (line_text (codes "metroheap: the log is outside the grammar"))
+SaysLog old new (judgement.FirstBad number fault) = SaysQuoted old new (IsComplaint (order_place number)) (line_text (codes "metroheap: an entry is bad"))
 
 -- the lines of what was promised of all windows and isn't so: a window below its floor, a pause that is too long, and a stretch below its share
 abbrev pub floor_text : BrokenFloor → Text

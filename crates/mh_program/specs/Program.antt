@@ -43,7 +43,7 @@ use Rattle.mh_sizing.specs.Texts.{IsRoomText, IsTargetText}
 use Rattle.mh_sizing.specs.declared.text.SizeText.{SizeText}
 use Rattle.std.specs.String.{string_bytes}
 use Rattle.mh_show.specs.OfTelling.Steps.{TellsReplies, told_text}
-use Rattle.mh_program.specs.Status.{judgement_status_of, line_status_of, live_status_of, log_status_of, sessions_status_of, size_status_of, status_of, curve_status_of}
+use Rattle.mh_program.specs.Status.{judgement_status_of, line_status_of, live_status_of, sessions_status_of, size_status_of, status_of, curve_status_of}
 use Rattle.mh_program.specs.Complaints.{ErrorStream, SaysEnd, SaysFault, SaysJudgement, SaysLine, SaysLog, SaysRefusals, SaysRun, SaysSeen, SaysSized, SaysCurve}
 
 -- the line that names the version, the rules and the versions of histories, and what proved them
@@ -131,7 +131,7 @@ Serves (Ok (Race workers)) source source' sink sink' errors errors' status = Obe
 Serves (Ok (Check config)) source source' sink sink' errors errors' status = Obeys (IsChecking config source source' sink sink') (SaysRun SaysJudgement) judgement_status_of errors errors' status
 Serves (Ok (CheckSessions options)) source source' sink sink' errors errors' status =
     Obeys (IsSessionsJudging options.may_be_full options.rules source source' sink sink') (SaysRun SaysSeen) sessions_status_of errors errors' status
-Serves (Ok (CheckLog rules)) source source' sink sink' errors errors' status = Obeys (IsLogJudging rules source source' sink sink') (SaysRun SaysLog) log_status_of errors errors' status
+Serves (Ok (CheckLog rules)) source source' sink sink' errors errors' status = Obeys (IsLogJudging rules source source' sink sink') (SaysRun SaysLog) judgement_status_of errors errors' status
 Serves (Ok Audit) source source' sink sink' errors errors' status = Obeys (IsAuditing source source' sink sink') (SaysRun SaysJudgement) judgement_status_of errors errors' status
 Serves (Ok (Migrate config)) source source' sink sink' errors errors' status = Obeys (IsMigrating config source source' sink sink') (SaysRun SaysJudgement) judgement_status_of errors errors' status
 Serves (Ok (Curve rules options)) source source' sink sink' errors errors' status = Obeys (IsDrawingRun options rules source source' sink sink') (SaysRun SaysCurve) curve_status_of errors errors' status

@@ -3,10 +3,10 @@ use Rattle.std.specs.Prelude.{ℕ, if◌then◌else◌, Result, Ok, Err}
 use Rattle.mh_show.specs.OfCurve.CurveEnd.{CurveEnd}
 use Rattle.mh_show.specs.OfCurve.CurveEnd.TheVariants as curve
 use Rattle.mh_show.specs.OfCurve.Promises.{is_any_broken}
-use Rattle.mh_log.specs.declared.judgement.LogJudgement.{LogJudgement}
-use Rattle.mh_log.specs.declared.judgement.LogJudgement.TheVariants as log
+use Rattle.mh_model.specs.declared.history.Verdict.{Verdict}
+use Rattle.mh_model.specs.declared.history.Verdict.TheVariants as verdict
+use Rattle.mh_log.specs.Judgements.{verdict_of}
 use Rattle.mh_log.specs.OfSessions.Judgement.{Judgement}
-use Rattle.mh_log.specs.OfSessions.Judgement.TheVariants as judgement
 use Rattle.mh_log.specs.OfSessions.SessionsJudgement.{SessionsJudgement}
 use Rattle.mh_live.specs.OfScript.End.{End}
 use Rattle.mh_live.specs.OfScript.End.TheVariants.{Done, Refused}
@@ -27,24 +27,21 @@ abbrev pub live_status_of : Result Unit ScriptFault → ℕ
 live_status_of (Ok nothing) = 0
 live_status_of (Err fault) = 3
 
--- 0 for a legal history, 1 for a text that was refused as one, 4 for a history that isn't legal, 3 for a fault
-abbrev pub judgement_status_of : Result Judgement ScriptFault → ℕ
-judgement_status_of (Ok (judgement.Legal entries)) = 0
-judgement_status_of (Ok (judgement.Refused line reason)) = 1
-judgement_status_of (Ok (judgement.FirstBad entry fault)) = 4
+-- 0 for a legal text, 1 for one that was refused, 4 for one that isn't legal
+abbrev pub verdict_status_of : Verdict → ℕ
+verdict_status_of (verdict.Legal entries) = 0
+verdict_status_of (verdict.Refused line) = 1
+verdict_status_of (verdict.FirstBad entry) = 4
+
+-- the same for the judgement of a history or of a log, and 3 for a fault
+abbrev pub judgement_status_of : {R F : Type 0} → Result (Judgement R F) ScriptFault → ℕ
+judgement_status_of (Ok judgement) = verdict_status_of (verdict_of judgement)
 judgement_status_of (Err fault) = 3
 
 -- the same for a history that is judged by what its sessions see
 abbrev pub sessions_status_of : Result SessionsJudgement ScriptFault → ℕ
 sessions_status_of (Ok found) = judgement_status_of (Ok found.judgement)
 sessions_status_of (Err fault) = 3
-
--- the same for a log, with an order that is legal or isn't
-abbrev pub log_status_of : Result LogJudgement ScriptFault → ℕ
-log_status_of (Ok (log.Legal commands)) = 0
-log_status_of (Ok (log.Refused line reason)) = 1
-log_status_of (Ok (log.FirstBad entry fault)) = 4
-log_status_of (Err fault) = 3
 
 -- 0 for a curve whose trace keeps what was promised, 4 for one that doesn't, 1 for a text that was refused, 3 for a fault
 abbrev pub curve_status_of : Result CurveEnd ScriptFault → ℕ

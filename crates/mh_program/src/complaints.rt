@@ -19,7 +19,7 @@ use mh_live::mh_script::end::{End, LineRefusal};
 use mh_live::mh_script::fault::{HISTORY_FULL, NO_MEMORY, READ_FAILED, ScriptFault, WRITE_FAILED};
 use mh_live::mh_script::mh_reasons::history_reason::HistoryReason;
 use mh_log::judgement::LogJudgement;
-use mh_log::mh_sessions::mh_judging::judgement::Judgement;
+use mh_log::mh_sessions::mh_judging::judgement::{HistoryJudgement, Judgement};
 use mh_log::mh_sessions::sessions_judgement::SessionsJudgement;
 use mh_log::mh_sessions::tally::Tally;
 use mh_orders::order::ConfigOption;
@@ -312,7 +312,7 @@ impl<E: Sink> Errors<E> {
         }
     }
 
-    fn say_found(&mut self, judgement: &Judgement)
+    fn say_found(&mut self, judgement: &HistoryJudgement)
         ensures { SaysJudgement self.old self.new judgement.now }
     {
         match judgement {
@@ -328,7 +328,7 @@ impl<E: Sink> Errors<E> {
         }
     }
 
-    fn say_seen_found(&mut self, judgement: &Judgement)
+    fn say_seen_found(&mut self, judgement: &HistoryJudgement)
         ensures { SaysJudgement self.old self.new judgement.now }
     {
         match judgement {
@@ -370,7 +370,7 @@ impl<E: Sink> Errors<E> {
     }
 
     /// Says what is wrong with a history, or the fault at which its judging ended.
-    pub(crate) fn say_judgement(&mut self, ended: &Result<Judgement, ScriptFault>)
+    pub(crate) fn say_judgement(&mut self, ended: &Result<HistoryJudgement, ScriptFault>)
         ensures { SaysRun SaysJudgement self.old self.new ended.now }
     {
         match ended {
@@ -383,12 +383,12 @@ impl<E: Sink> Errors<E> {
         ensures { SaysLog self.old self.new judgement.now }
     {
         match judgement {
-            LogJudgement::Legal(_) => {}
-            LogJudgement::Refused { line, reason } => {
+            Judgement::Legal(_) => {}
+            Judgement::Refused { line, reason } => {
                 let text = line_complaint(self.alloc(), *line, reason);
                 self.say_quoted(text, b"metroheap: the log is outside the grammar\n");
             }
-            LogJudgement::FirstBad { number, fault } => {
+            Judgement::FirstBad { number, fault } => {
                 let text = order_complaint(self.alloc(), *number, fault);
                 self.say_quoted(text, b"metroheap: an entry is bad\n");
             }

@@ -12,7 +12,7 @@ ghost use Rattle.mh_orders.specs.declared.order.Order.{Order};
 ghost use Rattle.mh_command_line.specs.Orders.{HasFewWorkers, HasFirstRules, OrdersBy};
 ghost use Rattle.mh_program.specs.Program.{AnswersLines, IsChromeRun, IsOpened, IsRunBy, IsShowRun, IsStepsRun, Obeys, Serves, WritesScript, WritesVersion};
 ghost use Rattle.mh_program.specs.Complaints.{SaysEnd, SaysFault, SaysJudgement, SaysLog, SaysRun, SaysSeen};
-ghost use Rattle.mh_program.specs.Status.{judgement_status_of, log_status_of, sessions_status_of, status_of};
+ghost use Rattle.mh_program.specs.Status.{judgement_status_of, sessions_status_of, status_of};
 ghost use Rattle.mh_model.specs.declared.config.Rules.TheVariants.{First};
 ghost use Rattle.mh_log.specs.OfSessions.Judged.{IsAuditing, IsChecking, IsMigrating};
 ghost use Rattle.mh_race_text.specs.Raced.{IsRaceRun};
@@ -24,9 +24,7 @@ ghost use Rattle.mh_cycles.specs.Lines.{cycles_text};
 use crate::errors::Errors;
 use crate::run_curve::{draw_other, draw_script};
 use crate::run_size::{size_room, size_run, size_target};
-use crate::status::{
-    judgement_status, line_status, live_status, log_status, sessions_status, status,
-};
+use crate::status::{judgement_status, line_status, live_status, sessions_status, status};
 use mh_chrome::run::chrome_script;
 use mh_command_line::fault::LineFault;
 use mh_command_line::order::line_order;
@@ -319,12 +317,12 @@ fn check_order<S: Source, W: Sink, E: Sink>(
     requires sink_count { W.failures sink.old < 2 ^ 62 }
     ensures { Obeys (IsLogJudging rules
         (device (S.rest source.old) (S.failures source.old)) (device (S.rest source.new) (S.failures source.new))
-        (device (W.written sink.old) (W.failures sink.old)) (device (W.written sink.new) (W.failures sink.new))) (SaysRun SaysLog) log_status_of
+        (device (W.written sink.old) (W.failures sink.old)) (device (W.written sink.new) (W.failures sink.new))) (SaysRun SaysLog) judgement_status_of
         errors.old errors.new result }
 {
     let ended = check_log(alloc, rules, source, sink);
     errors.say_log(&ended);
-    log_status(&ended)
+    judgement_status(&ended)
 }
 
 /// Audits a history, and reports a fault of that.

@@ -1,14 +1,14 @@
 //! The exit status of each end. It is 0 if all went well, 1 for a text that is refused, 2 for words that are. It is 3
 //! for a fault, and 4 for a history that isn't legal, a promise that isn't kept or a size that there is none of.
 ghost use Rattle.std.specs.Prelude.{◌≡◌};
-ghost use Rattle.mh_program.specs.Status.{curve_status_of, judgement_status_of, line_status_of, live_status_of, log_status_of, sessions_status_of, size_status_of, status_of};
+ghost use Rattle.mh_program.specs.Status.{curve_status_of, judgement_status_of, line_status_of, live_status_of, sessions_status_of, size_status_of, status_of, verdict_status_of};
 
 use mh_command_line::fault::LineFault;
 use mh_live::mh_script::end::End;
 use mh_live::mh_script::fault::ScriptFault;
-use mh_log::judgement::LogJudgement;
 use mh_log::mh_sessions::mh_judging::judgement::Judgement;
 use mh_log::mh_sessions::sessions_judgement::SessionsJudgement;
+use mh_model::history::Verdict;
 use mh_show::mh_curve::end::CurveEnd;
 use mh_size_text::end::SizeEnd;
 
@@ -33,14 +33,23 @@ pub fn live_status(ended: &Result<(), ScriptFault>) -> u8
     }
 }
 
-/// The exit status that the judgement of a history gives the program.
-pub fn judgement_status(ended: &Result<Judgement, ScriptFault>) -> u8
+/// The exit status that a verdict gives the program.
+fn verdict_status(verdict: Verdict) -> u8
+    ensures { result ≡ verdict_status_of verdict }
+{
+    match verdict {
+        Verdict::Legal(_) => 0,
+        Verdict::Refused(_) => 1,
+        Verdict::FirstBad(_) => 4,
+    }
+}
+
+/// The exit status that the judgement of a history or of a log gives the program.
+pub fn judgement_status<R, F>(ended: &Result<Judgement<R, F>, ScriptFault>) -> u8
     ensures { result ≡ judgement_status_of ended.now }
 {
     match ended {
-        Ok(Judgement::Legal(_)) => 0,
-        Ok(Judgement::Refused { .. }) => 1,
-        Ok(Judgement::FirstBad { .. }) => 4,
+        Ok(judgement) => verdict_status(judgement.verdict()),
         Err(_) => 3,
     }
 }
@@ -50,23 +59,7 @@ pub fn sessions_status(ended: &Result<SessionsJudgement, ScriptFault>) -> u8
     ensures { result ≡ sessions_status_of ended.now }
 {
     match ended {
-        Ok(found) => match found.judgement {
-            Judgement::Legal(_) => 0,
-            Judgement::Refused { .. } => 1,
-            Judgement::FirstBad { .. } => 4,
-        },
-        Err(_) => 3,
-    }
-}
-
-/// The exit status that the judgement of a log gives the program.
-pub fn log_status(ended: &Result<LogJudgement, ScriptFault>) -> u8
-    ensures { result ≡ log_status_of ended.now }
-{
-    match ended {
-        Ok(LogJudgement::Legal(_)) => 0,
-        Ok(LogJudgement::Refused { .. }) => 1,
-        Ok(LogJudgement::FirstBad { .. }) => 4,
+        Ok(found) => verdict_status(found.judgement.verdict()),
         Err(_) => 3,
     }
 }

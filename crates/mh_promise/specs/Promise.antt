@@ -140,18 +140,18 @@ pub record IsPromised (config : Config) (events : List Event) (outcome : Outcome
   pub limit : QuantaKeepTheirLimit config events outcome
   -- a cycle that ends leaves just what was reachable as it started, and what was born since
   pub cycles : CyclesLeaveWhatIsKept config events
-  -- and no forwarder that it didn't make itself
+  -- a cycle that ends leaves no forwarder that it didn't make itself
   pub forwarders : CyclesMakeTheirForwarders config events
   -- at each moment the snapshot is kept, what sessions see is the world's, and each reference of a root or of a held block leads to a held block in one hop at most
   pub moments : MomentsAreSafe config events
   -- a cycle that runs ends within its bound of quanta
   pub ends : CyclesEnd config events
-  -- and once as many quanta as are reported to be left have been run, it has ended
+  -- a cycle has ended once as many quanta as are reported to be left have been run
   pub left : LeftCountsToTheEnd config events outcome.replies
   -- if the scheduler runs quanta, the mutator has its share of the units
   pub share : 0 < config.every → MutatorHasItsFloor config outcome
 
--- These are the replies of an outcome that keeps the promise of these events
+-- Replies of an outcome that keeps the promise of these events
 pub record ArePromised (config : Config) (events : List Event) (replies : List Reply) : Type 0 where
   pub outcome : Outcome
   pub promise : IsPromised config events outcome

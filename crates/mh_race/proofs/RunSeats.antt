@@ -57,9 +57,6 @@ nobody-stopped count number =
     let stops : List (Option Stop) = replicate count None in
     ⊎_elim (λ past. get_or_past stops number None (omega (arith, past.1, length-replicate {A = Option Stop} count None))) (λ within. get_or-replicate {A = Option Stop} count number None None within.1) (leb_tells count number)
 
-pub noted-nobody : (stops : List (Option Stop)) → AreNoted [] stops stops
-noted-nobody stops = record { none = λ number below is. (is, λ k d lt. absurd (omega (arith, lt))); some = λ number stop below is. inl is; above = λ number past. refl }
-
 module _ (racers : List Racer) (racer : Racer) (old mid new : List (Option Stop)) (noted : AreNoted racers old mid) where
   -- one that was noted before
   found-before : (number : ℕ) (reason : Stop) → number < 9 → get_or mid number None ≡ Some reason

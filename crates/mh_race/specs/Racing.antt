@@ -39,7 +39,7 @@ pub record AreNoted (racers : List Racer) (old new : List (Option Stop)) : Type 
       → (get_or old number None ≡ Some stop) ⊎ ((racer : Racer) × Contains racers racer × (racer.seat.number ≡ number) × (racer.stop ≡ Some stop))
   pub above : (number : ℕ) → 8 < number → get_or new number None ≡ get_or old number None
 
--- the same of seats and what they have run
+-- what is noted of seats is true of what they have run: one at whose number nothing is noted made all its calls, and one at whose number a reason is noted was refused a call for it
 pub record AreRun (Refused : LockSeatView Entry → Event → Stop → Type 0) (events : List Event) (stops : List (Option Stop)) (seats : List (LockSeatView Entry)) : Type 0 where
   pub none : (number : ℕ) → number < 9 → get_or stops number None ≡ None → All (λ seat. seat.number ≡ number → HasMadeItsCalls Refused events None seat) seats
   pub some : (number : ℕ) (stop : Stop) → number < 9 → get_or stops number None ≡ Some stop → (seat : LockSeatView Entry) × Contains seats seat × (seat.number ≡ number) × HasMadeItsCalls Refused events (Some stop) seat
@@ -60,7 +60,7 @@ AreStopped events done stops = (seat : ℕ) → (get_or stops seat None ≡ None
 abbrev pub MakesTheCalls : List Event → List Event → Type 0
 MakesTheCalls events done = (seat : ℕ) → owned_by owner_of seat done ≡ owned_by owner_of seat events
 
--- or the first of them, and no others
+-- Each seat's calls are the first of those that it has among the events, in their order, and no others
 abbrev pub BeginsItsCalls : List Event → List Event → Type 0
 BeginsItsCalls events done = (seat : ℕ) → (left : List Event) × (owned_by owner_of seat done ++ left ≡ owned_by owner_of seat events)
 
@@ -71,6 +71,6 @@ pub record StoppedAtARefusal (service : ServiceView) (events : List Event) (hist
   pub log_is : seat.log ≡ owned_by (λ entry. owner_of entry.event) number history
   pub calls : HasMadeItsCalls (WasRefused service) events (Some stop) seat
 
--- So did each seat that was stopped, with one service of this configuration, for the reason that is given for it
+-- Each seat that was stopped made its calls up to one that the one service of this configuration refused, for the reason that is given for the seat
 abbrev pub HaveReasons : Config → List Event → List Entry → List (Option Stop) → Type 0
 HaveReasons config events history stops = (service : ServiceView) × (service.config ≡ config) × ((seat : ℕ) (stop : Stop) → get_or stops seat None ≡ Some stop → StoppedAtARefusal service events history seat stop)

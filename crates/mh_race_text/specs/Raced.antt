@@ -43,7 +43,7 @@ abbrev pub BeginsRaceOf : Reading Meaning → Option Text → Option Text → Ty
 BeginsRaceOf (BadLine line) old new = AppendsBeginning old new (line_text (bad_line_text line))
 BeginsRaceOf (Means script) old new = Writes (IsRaceBegun script) old new
 
--- the same of the text of a source
+-- a prefix was written of what a race leaves of the text of a source, or of the line that refuses it
 pub record BeginsToRace (known old new : Option Text) : Type 0 where
   pub text : Text
   pub is_text : IsTextOf known text

@@ -37,7 +37,7 @@ pub record HasNoRules (given : List Text) : Type 0 where
   pub count : length config ≡ 4
   pub unknown : rules_of rules ≡ None
 
--- those of which this number of the configuration is the first outside its limits
+-- words after `rules` that are five numbers, of which this number of the configuration is the first outside its limits
 pub record IsGivenOutside (which : ConfigNumber) (given : List Text) : Type 0 where
   pub rules : ℕ
   pub pages : ℕ
@@ -56,12 +56,12 @@ IsGivenReason given (reason.Limit which) = IsGivenOutside which given
 IsGivenReason given (reason.Words r) = IsOperandReason verb.Rules (verb_bounds verb.Rules) given r
 IsGivenReason given _ = ⊥
 
--- neither the first line of version 1, nor one that begins as that of version 2
+-- a first line that is neither that of version 1 nor begins as that of version 2
 abbrev pub IsOtherFirst : Version → Text → Type 0
 IsOtherFirst One line = is_text line (codes "history 1") ≡ false
 IsOtherFirst Two line = (given : List Text) → words line ≢ headed given
 
--- neither the configuration of a script nor a history of another version
+-- a first line that begins neither the configuration of a script nor a history of another version
 pub record IsUnknownFirst (version : Version) (words : List Text) : Type 0 where
   pub script : word_at words 0 ≢ codes "config"
   pub other : (of : Version) → of ≢ version → ¬ IsHistory words of
@@ -97,7 +97,7 @@ IsEventReason version event (reason.Session quoted) =
 IsEventReason version event (reason.Words r) = (is_caller (word_at event 0) ≡ true) × IsWordsReason version true event r
 IsEventReason version event _ = ⊥
 
--- and of those of a reply
+-- What a reason says of the words of a reply
 abbrev pub IsReplyReason : Version → List Text → HistoryLineReason → Type 0
 IsReplyReason version reply reason.EmptyReply = reply ≡ []
 IsReplyReason version reply (reason.Reply quoted) = (reply ≢ []) × (reply_of version reply ≡ None) × Quotes (word_at reply 0) quoted
@@ -109,18 +109,18 @@ IsEntryWordsReason version entry reason.NoReply = halves_at (codes "=") entry �
 IsEntryWordsReason version entry r =
     (halves : Halves) × (halves_at (codes "=") entry ≡ Some halves) × (IsEventReason version halves.before r ⊎ (IsSome (event_of version halves.before) × IsReplyReason version halves.after r))
 
--- and of the words after `units`
+-- What a reason says of the words after `units`
 abbrev pub IsUnitsReason : List Text → HistoryLineReason → Type 0
 IsUnitsReason units (reason.Words r) = IsOperandReason verb.Units (verb_bounds verb.Units) units r
 IsUnitsReason units _ = ⊥
 
--- and of those of an entry with its units
+-- What a reason says of the words of an entry with its units
 abbrev pub IsMeasuredReason : List Text → HistoryLineReason → Type 0
 IsMeasuredReason measured reason.NoUnits = halves_at (codes "units") measured ≡ None
 IsMeasuredReason measured r =
     (halves : Halves) × (halves_at (codes "units") measured ≡ Some halves) × (IsUnitsReason halves.after r ⊎ ((fit (verb_bounds verb.Units) halves.after ≡ true) × IsEntryWordsReason Two halves.before r))
 
--- and of those of an entry of this version
+-- What a reason says of the words of an entry of this version
 abbrev pub IsVersionReason : Version → List Text → HistoryLineReason → Type 0
 IsVersionReason One words r = IsEntryWordsReason One words r
 IsVersionReason Two words r = IsMeasuredReason words r

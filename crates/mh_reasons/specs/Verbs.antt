@@ -59,11 +59,11 @@ abbrev pub NamesRow : {X : Type 0} → List (Row X) → Text → Option Verb →
 NamesRow rows word None = bounds_of rows word ≡ None
 NamesRow rows word (Some verb) = (word ≡ verb_text verb) × (bounds_of rows word ≡ Some (verb_bounds verb))
 
--- those after the word of the configuration, whose limits are another matter
+-- the bounds of the numbers after the word of the configuration, whose limits are another matter
 abbrev pub config_bounds : Text → Option (List ℕ)
 config_bounds word = if is_text word (codes "config") then Some (u64 ∷ u64 ∷ u64 ∷ u64 ∷ []) else None
 
--- those after a name, or after `*`, and a word
+-- the bounds of the numbers after a name, or after `*`, and a word
 abbrev pub event_bounds : Version → Text → Text → Option (List ℕ)
 event_bounds version name word = if is_text name (codes "*") then bounds_of (control_rows version) word else (if is_name name then bounds_of command_rows word else None)
 

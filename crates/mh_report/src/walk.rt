@@ -53,7 +53,7 @@ impl Walk {
         }
     }
 
-    /// It slid on over letters that are alike.
+    /// The stretch as it has slid on over letters that are alike.
     fn over(self, segments: &[Segment], entering: Segment) -> Walk
         requires point { IsPoint segments.now self.leaving }
         requires there { entering.count ≤ length (after segments.now self.leaving) }
@@ -83,7 +83,7 @@ impl Walk {
         walk
     }
 
-    /// It slid on to the end of the trace, which has so many letters.
+    /// The stretch as it has slid on to the end of the trace, which has so many letters.
     pub fn to_end(self, segments: &[Segment], letters: u64) -> Walk
         requires walk { IsWalk segments.now self }
         requires letters { letters ≡ length (letters_of segments.now) }

@@ -1,4 +1,3 @@
-pub mod Openings
 pub mod Worlds
 pub mod Room
 pub mod Rates

@@ -48,7 +48,7 @@ abbrev pub class_opens : (ℕ → ℕ → ℕ) → ℕ → ℕ → ℕ → ℕ
 class_opens allowed units quanta size =
     min (quanta * pages_for size (allowed size units)) ((allowed size (quanta * units) + quanta * (slots_in size - 1)) / slots_in size)
 
--- the same of all classes
+-- the most pages of all classes that so many intervals in a row open
 abbrev pub opens_at_rate : (ℕ → ℕ → ℕ) → ℕ → ℕ → ℕ
 opens_at_rate allowed units quanta = sum_by (class_opens allowed units quanta) class_sizes
 

@@ -78,7 +78,7 @@ pub record HasRoomFrom (config : Config) (machine : Machine) (events : List Even
   pub free : opened_by (quanta - machine.heap.collector.quanta) config (intervals [] machine events) ≤ free_of machine
   pub left : AllByRecursion (λ ended. opened_by quanta config (intervals [] machine events) ≤ free_of ended) (cycle_ends machine events)
 
--- The same from any moment of a run on, whatever came before: no later reply is `heap full`, and no later object goes into a flagged page. From the opening
+-- With room from any moment of a run on, whatever came before, no later reply is `heap full`, and no later object goes into a flagged page. From the opening
 -- on this wants as many pages as any N intervals in a row open
 abbrev pub RoomFromAMomentSuffices : Type 0
 RoomFromAMomentSuffices = (config : Config) (before events : List Event) (quanta : ℕ) →

@@ -19,6 +19,6 @@ pub record RoomIsEnough (config : Config) (events : List Event) : Type 0 where
       → KeepToRate allowed most config events → CyclesTakeAtMost quanta config events → LeaveInUse used config events → IsNeverFull config events
   pub worlds : IsNeverFull config events → AnswerAsTheWorld (first_world config) events (machine_replies (first_machine config) events)
 
--- So it is of each run
+-- Room is enough in each run, of any configuration and any events
 abbrev pub EachRunHasItsRoom : Type 0
 EachRunHasItsRoom = (config : Config) (events : List Event) → RoomIsEnough config events

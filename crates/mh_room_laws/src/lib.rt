@@ -1,7 +1,6 @@
-//! The laws of room: how many pages new objects open, and what keeps a heap from ever being full: numbers that a runtime can count, or a rate at which its
+//! The laws of room: what keeps a heap from ever being full: numbers that a runtime can count, or a rate at which its
 //! sessions ask for blocks. Each is what a function with nothing to do ensures. They speak of the machine of the model, and not yet of code.
 #![tactic(auto)]
 
-pub mod openings;
 pub mod room;
 pub mod worlds;

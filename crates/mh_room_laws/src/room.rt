@@ -10,7 +10,7 @@ pub fn room_in_a_row_suffices()
     ensures { RoomInARowSuffices }
 {}
 
-/// Nor is one from any moment on, if it has such room from then on.
+/// A run with such room from some moment on is never answered by a full heap from that moment on.
 pub fn room_from_a_moment_suffices()
     ensures { RoomFromAMomentSuffices }
 {}

@@ -1,6 +1,3 @@
-pub mod ClaimDraws
-pub mod EndedSeats
-pub mod KeptLocks
-pub mod LockCalls
-pub mod LockedTables
+pub mod Claims
+pub mod Locks
 pub mod Merges

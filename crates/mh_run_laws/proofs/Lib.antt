@@ -1,3 +1,4 @@
 pub mod marking
 pub mod runs
 pub mod trace
+pub mod snapshots

@@ -1,3 +1,2 @@
-pub mod GreyRoom
 pub mod MarkedOnce
 pub mod ReachableNow

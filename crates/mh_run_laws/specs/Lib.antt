@@ -2,7 +2,6 @@ pub mod Worlds
 pub mod GreyRoom
 pub mod Bounds
 pub mod Utilisation
-pub mod Snapshots
 pub mod Showing
 pub mod Following
 pub mod BesideTheWorld

@@ -9,6 +9,5 @@ pub mod forwarders;
 pub mod grey_room;
 pub mod replays;
 pub mod showing;
-pub mod snapshots;
 pub mod utilisation;
 pub mod worlds;

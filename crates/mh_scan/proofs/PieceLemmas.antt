@@ -1,7 +1,6 @@
 -- Pieces of a batch, and how often each was scanned.
-use Rattle.std.proofs.Common.{arith, ◌≡◌, ℕ, zero, suc, ◌+◌, ◌*◌, ◌<◌, ◌≤◌, ◌==◌, if◌then◌else◌, Bool, Option, List, [], ◌∷◌, ◌++◌, take, drop, remove, length, get_or, map, flat_map, count_by, All, refl, sym, ap, ◌∙◌}
+use Rattle.std.proofs.Common.{arith, ◌≡◌, ℕ, zero, suc, ◌+◌, ◌*◌, ◌<◌, ◌≤◌, ◌==◌, if◌then◌else◌, Option, List, [], ◌∷◌, ◌++◌, take, drop, remove, length, get_or, map, flat_map, count_by, All, refl, sym, ap, ◌∙◌}
 use Rattle.std.proofs.Math.Seq.{take-add}
-use Rattle.std.proofs.lemmas.List.{take_more}
 use Rattle.std.proofs.lemmas.List.Elements.{All-take, All-drop, All-append, All-from_get_or}
 use Rattle.std.proofs.lemmas.List.Sums.{sum_by-append, sum_by-cons}
 use Rattle.std.proofs.lemmas.Bool.Decides.{nat_tests}
@@ -53,16 +52,6 @@ answers-append table asks xs ys first more all a b of_lists of_settled = record 
   lists = ap lists of_lists ∙ lists-append first.lists.items more.lists.items ∙ (λ i. a.lists i ++ b.lists i) ∙ sym (lists_asked-append table asks xs ys);
   settled = of_settled ∙ (λ i. a.settled i ++ b.settled i) ∙ sym (settled_asked-append table asks xs ys);
 }
-
--- and of the place that is next in a batch
-pub answers-next : (table : Table Block) (asks : Asks) (batch : List ℕ) (index place : ℕ) (first all : Answers) → index < length batch → place ≡ get_or batch index 0 → AreAnswers table asks (take index batch) first
-    → lists all.lists.items ≡ lists first.lists.items ++ lists_asked table asks (place ∷ []) → all.settled.items ≡ first.settled.items ++ settled_asked table asks (place ∷ []) → AreAnswers table asks (take (index + 1) batch) all
-answers-next table asks batch index place first all below here a of_lists of_settled =
-    let more : take (index + 1) batch ≡ take index batch ++ place ∷ [] = take_more batch index 0 below ∙ ap (λ (next : ℕ). take index batch ++ next ∷ []) (sym here) in
-    rw more (record {
-      lists = of_lists ∙ ap (λ (found : List (List (Option ℕ))). found ++ lists_asked table asks (place ∷ [])) a.lists ∙ sym (lists_asked-append table asks (take index batch) (place ∷ []));
-      settled = of_settled ∙ ap (λ (found : List Bool). found ++ settled_asked table asks (place ∷ [])) a.settled ∙ sym (settled_asked-append table asks (take index batch) (place ∷ []));
-    })
 
 pub pieces_of-push : (found : List Found) (one : Found) → pieces_of (found ++ one ∷ []) ≡ pieces_of found ++ one.piece ∷ []
 pieces_of-push found one = map-append (λ (found : Found). found.piece) found (one ∷ [])

@@ -90,3 +90,34 @@ impl Scanner for OneScan {
         false
     }
 }
+
+/// The scanner of who marks block by block: it finds nothing.
+#[derive(Clone, Copy)]
+pub struct NoScan;
+
+impl Scanner for NoScan {
+    fn scan(
+        &mut self,
+        _blocks: &Blocks,
+        _batch: &[Place],
+    ) -> Result<Vec<ArrayVec<Option<Place>, 60>>, NoMemory> {
+        Err(NoMemory)
+    }
+
+    fn settled(
+        &mut self,
+        _blocks: &Blocks,
+        _cycle: u64,
+        _batch: &[Place],
+    ) -> Result<Vec<bool>, NoMemory> {
+        Err(NoMemory)
+    }
+
+    fn is_alone(&self) -> bool {
+        true
+    }
+
+    fn pays(&self, _cost: u64) -> bool {
+        false
+    }
+}

@@ -39,7 +39,7 @@ abbrev pub transcript_of : (Config → List Event → Text) → Rules → Readin
 transcript_of text_of rules (BadLine line) = line_text (bad_line_text line)
 transcript_of text_of rules (Means script) = text_of (with_rules rules script.config) (take most_entries script.events)
 
--- the same of a text, at which the transcript may look
+-- the transcript of a text, at which the way to write it may look
 abbrev pub transcript : (Text → Config → List Event → Text) → Rules → Text → Text
 transcript text_of rules text = transcript_of (text_of text) rules (reading text)
 

@@ -39,14 +39,14 @@ Blames source source' sink sink' (Err Read) = (source < source') × (sink' ≡ s
 Blames source source' sink sink' (Err Write) = (source' ≡ source) × (sink < sink')
 Blames source source' sink sink' _ = (source' ≡ source) × (sink' ≡ sink)
 
--- the same if no sink was written to, so that reading or refused memory alone is the fault
+-- what a fault blames if no sink was written to, so that reading or refused memory alone is the fault
 abbrev pub BlamesSource : {X : Type 0} → (source source' : ℕ) → Result X ScriptFault → Type 0
 BlamesSource source source' (Ok text) = source' ≡ source
 BlamesSource source source' (Err Read) = source < source'
 BlamesSource source source' (Err NoMemory) = source' ≡ source
 BlamesSource source source' (Err _) = ⊥
 
--- the same if no source was read, so that writing, refused memory or a full history alone is the fault
+-- what a fault blames if no source was read, so that writing, refused memory or a full history alone is the fault
 abbrev pub BlamesSink : {X : Type 0} → (sink sink' : ℕ) → Result X ScriptFault → Type 0
 BlamesSink sink sink' (Err Read) = ⊥
 BlamesSink sink sink' (Err Write) = sink < sink'

@@ -6,7 +6,7 @@ abbrev pub weigh : (ℕ → ℕ) → List ℕ → ℕ
 weigh h [] = 0
 weigh h (x ∷ xs) = h x + weigh h xs
 
--- the same over several lists
+-- the weights of the numbers in several lists, added up
 abbrev pub weigh_lists : (ℕ → ℕ) → List (List ℕ) → ℕ
 weigh_lists h [] = 0
 weigh_lists h (l ∷ ls) = weigh h l + weigh_lists h ls

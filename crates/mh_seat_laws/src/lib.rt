@@ -2,7 +2,6 @@
 //! Each law is what a function with nothing to do ensures.
 #![tactic(auto)]
 
-pub mod claim_word;
 pub mod lock;
 mod seat_view;
 

@@ -1,19 +1,9 @@
 //! Laws of the lock.
-ghost use Rattle.mh_seat_laws.specs.Laws.{EventsHaveOneOwner, GiveKeepsTheLock, LockIsKept, LogsMergeToTheHistory, TakeKeepsTheLock};
+ghost use Rattle.mh_seat_laws.specs.Laws.{EventsHaveOneOwner, LockIsKept, LogsMergeToTheHistory};
 
 /// A table that keeps the rule of the lock shows a lock that keeps the model's rule.
 pub fn lock_is_kept<T, E, O>()
     ensures { LockIsKept T E O }
-{}
-
-/// A try to take the value keeps the lock's rule.
-pub fn take_keeps_the_lock()
-    ensures { TakeKeepsTheLock }
-{}
-
-/// Giving the value back keeps the lock's rule.
-pub fn give_keeps_the_lock()
-    ensures { GiveKeepsTheLock }
 {}
 
 /// Each event is owned by one of the nine seats.

@@ -21,10 +21,6 @@ within config =
 limits : (pages quantum trigger every : ℕ) → 1 ≤ pages → pages ≤ 4096 → least_quantum ≤ quantum → quantum ≤ 1000000 → trigger ≤ pages → every ≤ 1000000 → is_configuration pages quantum trigger every ≡ true
 limits pages quantum trigger every a b c d e f = grind (arith, nat_tests)
 
--- a heap of so many pages with this trigger
-pub heap-limits : (config : Config) (pages trigger : ℕ) → 1 ≤ pages → pages ≤ 4096 → trigger ≤ pages → is_configuration pages config.quantum trigger config.every ≡ true
-heap-limits config pages trigger some few less = let limit = within config in limits pages config.quantum trigger config.every some few limit.least limit.most less limit.every
-
 apart : (every count : ℕ) → every ≤ 1000000 → count ≤ 1000000 → max every (count / 1000) ≤ 1000000
 apart every count a b = omega arith
 

@@ -1,5 +1,5 @@
 -- Runs that are looked at with one trigger after another.
-use Rattle.std.proofs.Common.{◌≡◌, ◌∙◌, inl, inr, ℕ, ◌+◌, ◌<◌, max, true, false, Option, Some, None, IsSome, IsSomeAnd, List, [], ◌∷◌, ◌++◌, length, take, drop, get_or, refl, sym, ap, subst, arith}
+use Rattle.std.proofs.Common.{◌≡◌, ◌∙◌, inl, inr, ℕ, ◌+◌, ◌<◌, max, true, false, Option, Some, None, IsSome, IsSomeAnd, List, [], ◌∷◌, ◌++◌, length, take, drop, get_or, refl, sym, ap, subst}
 use Rattle.std.specs.List.{AllByRecursion}
 use Rattle.std.specs.Option.{option_or}
 use Rattle.std.proofs.Math.Seq.{drop-cons, take-add}
@@ -15,8 +15,8 @@ use Rattle.mh_seen.specs.declared.seen.Seen.{Seen}
 use Rattle.mh_seen.specs.Full.{first_full}
 use Rattle.mh_seen.specs.Rows.{IsLooked, IsOutcome, IsPassed, WhyPassed, is_roomless}
 use Rattle.mh_seen.specs.Seen.{MeetsTheLaw, seen_in}
-use Rattle.mh_seen.specs.Tried.{FitsWith, IsFull, IsFullWith, heap_with, triggers_of}
-use Rattle.mh_seen.proofs.TriedLemmas.{AreFull, FullAt, all-full, all-next, none-full, one-more, some-and, splits}
+use Rattle.mh_seen.specs.Tried.{FitsWith, IsFullWith, heap_with, triggers_of}
+use Rattle.mh_seen.proofs.TriedLemmas.{AreFull, FullAt, all-next, one-more, some-and, splits}
 
 all-one : (P : ℕ → Type 0) (list : List ℕ) (x : ℕ) → AllByRecursion P list → P x → AllByRecursion P (list ++ x ∷ [])
 all-one P [] x all here = (here, tt)
@@ -54,9 +54,6 @@ module _ (config : Config) (events : List Event) (pages window : ℕ) where
   pub record HasLooked (place latest : ℕ) (first : Option (ℕ × Seen)) : Type 0 where
     pub passed : AllByRecursion (IsPassed config events pages window) (take place (triggers_of pages))
     pub found : HasFirst place latest first
-
-  pub looked-first : HasLooked 0 0 None
-  looked-first = record { passed = tt; found = none-full config events pages }
 
   full-passed : (event trigger : ℕ) → FullAt config events pages event trigger → IsPassed config events pages window trigger
   full-passed event trigger = some-and config events pages (heap_with config pages trigger) _ _ (λ heap is. inl (subst IsSome (sym is) refl))
@@ -147,10 +144,6 @@ module _ (config : Config) (events : List Event) (pages window : ℕ) where
         passed = subst (λ (room : HasRoom). AllByRecursion (WhyPassed room config events pages window) found.before) (sym found.none) found.passed;
         later = λ _. found.later;
       }
-
-  -- or none does
-  pub all-looked : (place latest : ℕ) → place ≡ 5 → HasLooked place latest None → IsFull config events pages latest
-  all-looked place latest five has = all-full config events pages place latest (omega (arith, five)) (omega (arith, five)) has.found
 
 -- Whether there is no room, by a test
 pub is-roomy : (room : HasRoom) → is_roomless room ≡ false → room ≡ No → ⊥

@@ -4,6 +4,6 @@ use Rattle.mh_model.specs.Classes.{Part, class_sizes}
 use Rattle.mh_model.specs.Openings.{class_parts}
 use Rattle.mh_seen.specs.declared.class_counts.ClassCounts.{ClassCounts}
 
--- these are the counts of some parts by class
+-- the counts of some parts by class
 abbrev pub HasCounted : ClassCounts → List Part → Type 0
 HasCounted counted parts = counted.counts ≡ map (λ size. class_parts size parts) class_sizes

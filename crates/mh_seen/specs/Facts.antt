@@ -9,7 +9,7 @@ use Rattle.mh_room_laws.specs.Room.{later_intervals}
 use Rattle.mh_seen.specs.declared.watched.Facts.{Facts}
 use Rattle.mh_seen.specs.Seen.{fewest_left, free_at_start, most_quanta_of}
 
--- these are how many cycles ended, the most quanta of one, what they left, what was free after the first start, and what each later interval opens
+-- how many cycles ended, the most quanta of one, what they left, what was free after the first start, and what each later interval opens
 pub record HasFacts (config : Config) (events : List Event) (facts : Facts) : Type 0 where
   pub cycles : facts.cycles ≡ length (cycle_ends (first_machine config) events)
   pub quanta : facts.quanta ≡ most_quanta_of config events

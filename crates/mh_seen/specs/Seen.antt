@@ -22,7 +22,7 @@ greatest (number ∷ numbers) = max number (greatest numbers)
 abbrev pub quanta_taken : Collector → Collector → ℕ
 quanta_taken old new = if has_ended old new then old.quanta + 1 else (if is_idle new.phase then 0 else new.quanta + 1)
 
--- the same after each event of a run
+-- how many quanta cycles take at least, after each event of a run
 abbrev pub counts_of_quanta : Machine → List Event → List ℕ
 counts_of_quanta machine [] = []
 counts_of_quanta machine (event ∷ events) =

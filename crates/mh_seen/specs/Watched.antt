@@ -12,7 +12,7 @@ pub record HasSameCounts (old new : Watched) : Type 0 where
   pub quanta : new.quanta ≡ old.quanta
   pub left : new.left ≡ old.left
 
--- and so is the start of the first cycle
+-- the cycles, their quanta, what they leave and the start of the first are as they were
 pub record HasSameCycles (old new : Watched) : Type 0 where
   pub counts : HasSameCounts old new
   pub start : new.start ≡ old.start

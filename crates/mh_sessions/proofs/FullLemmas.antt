@@ -2,10 +2,10 @@
 use Rattle.std.proofs.Common.{◌≡◌, ◌∙◌, inl, inr, ℕ, zero, suc, ◌+◌, ◌-◌, ◌<◌, ◌≤◌, Bool, true, false, cond, count_by, List, [], ◌∷◌, ◌++◌, length, take, ap, sym, refl, subst, arith}
 use Rattle.std.proofs.lemmas.Bool.{false≢true}
 use Rattle.std.proofs.lemmas.List.{append_assoc, length_push, take_at}
-use Rattle.std.proofs.lemmas.List.Sums.{count_by-le-length, sum_by_push, sum_by-take-le}
+use Rattle.std.proofs.lemmas.List.Sums.{sum_by_push}
 use Rattle.mh_judging.specs.declared.entry_fault.EntryFault.{EntryFault}
 use Rattle.mh_judging.specs.declared.entry_fault.EntryFault.TheVariants as fault
-use Rattle.mh_judging.specs.Faults.{HasFault, IsFaultAfter}
+use Rattle.mh_judging.specs.Faults.{HasFault}
 use Rattle.mh_model.specs.declared.command.Command.{Command}
 use Rattle.mh_model.specs.declared.command.Event.{Event}
 use Rattle.mh_model.specs.declared.command.Event.TheVariants as event
@@ -21,39 +21,9 @@ use Rattle.mh_model.specs.Sessions.{AreSeen, IsLegalForSessions, IsSeen}
 use Rattle.mh_model.specs.Snapshot.{is_heap_full, world_beside_event}
 use Rattle.mh_model.specs.World.{World, first_world}
 use Rattle.mh_run_laws.proofs.worlds.FullHeaps.{world_step-never_full}
-use Rattle.mh_sessions.specs.declared.tally.Tally.{Tally}
-use Rattle.mh_sessions.specs.Faults.{IsOtherAfter, IsOtherReply, IsUnseenAfter, IsUnseenReply}
-use Rattle.mh_sessions.specs.Full.{answers_full, asks_quantum, asks_start, is_full, lawful_by, tally_of}
+use Rattle.mh_sessions.specs.Faults.{IsOtherAfter, IsOtherReply, IsUnseenReply}
+use Rattle.mh_sessions.specs.Full.{answers_full, is_full, lawful_by}
 use Rattle.mh_sessions.proofs.SeenLemmas.{seen_at, world_after}
-
--- Counting ---------------------------------------------------------------------------------------
-
--- a tally of one entry more
-pub tally_more : (seen : List Entry) (entry : Entry) → tally_of (seen ++ entry ∷ []) ≡ record {
-  entries = length seen + 1;
-  full = count_by is_full seen + cond (is_full entry) 1 0;
-  quanta = count_by (λ (e : Entry). asks_quantum e.event) seen + cond (asks_quantum entry.event) 1 0;
-  starts = count_by (λ (e : Entry). asks_start e.event) seen + cond (asks_start entry.event) 1 0;
-}
-tally_more seen entry =
-    let entries = length_push seen entry in
-    let full = sum_by_push (λ (e : Entry). cond (is_full e) 1 0) seen entry in
-    let quanta = sum_by_push (λ (e : Entry). cond (asks_quantum e.event) 1 0) seen entry in
-    let starts = sum_by_push (λ (e : Entry). cond (asks_start e.event) 1 0) seen entry in
-    cc
-
--- nothing in it is more than the entries are
-pub record IsSmall (tally : Tally) : Type 0 where
-  pub full : tally.full ≤ tally.entries
-  pub quanta : tally.quanta ≤ tally.entries
-  pub starts : tally.starts ≤ tally.entries
-
-pub tally_small : (seen : List Entry) → IsSmall (tally_of seen)
-tally_small seen = record {
-  full = count_by-le-length is_full seen;
-  quanta = count_by-le-length (λ (e : Entry). asks_quantum e.event) seen;
-  starts = count_by-le-length (λ (e : Entry). asks_start e.event) seen;
-}
 
 -- Beginnings -------------------------------------------------------------------------------------
 
@@ -80,11 +50,6 @@ front_front zero m entries less = refl
 front_front (suc n) zero entries less = absurd (omega (arith, less))
 front_front (suc n) (suc m) [] less = refl
 front_front (suc n) (suc m) (entry ∷ entries) less = ap (λ (es : List Entry). entry ∷ es) (front_front n m entries (omega (arith, less)))
-
--- how many of the first entries are full
-pub full_front : (n m : ℕ) (entries : List Entry) → n ≤ m → count_by is_full (take n entries) ≤ count_by is_full (take m entries)
-full_front n m entries less =
-    subst (λ es. count_by is_full es ≤ count_by is_full (take m entries)) (front_front n m entries less) (sum_by-take-le (λ (e : Entry). cond (is_full e) 1 0) (take m entries) n)
 
 -- The first full entry ---------------------------------------------------------------------------
 
@@ -171,19 +136,6 @@ module _ (rules : Rules) (entries : List Entry) (number : ℕ) (first : IsFirstF
           rw (asked, answer) (right (world_after (first_world config) before) who command (rw (asked, answer) at seen))
 
 -- a reply that its session may not see isn't the world's
-other_reply : (world : World) (asked : Event) (answer : Reply) (f : EntryFault) → IsUnseenReply world asked answer f → IsOtherReply world asked answer f
+pub other_reply : (world : World) (asked : Event) (answer : Reply) (f : EntryFault) → IsUnseenReply world asked answer f → IsOtherReply world asked answer f
 other_reply world (event.Session who command) answer f is = is.1
 other_reply world (event.Control control) answer f is = is
-
-pub other_fault : (rules : Rules) (entries : List Entry) (number : ℕ) (f : EntryFault) → HasFault (IsUnseenAfter rules) entries number f → HasFault (IsOtherAfter rules) entries number f
-other_fault rules entries number f has = record {
-  before = has.before;
-  entry = has.entry;
-  after = has.after;
-  history_is = has.history_is;
-  numbered = has.numbered;
-  fault = by has.fault;
-} where
-  by : IsFaultAfter (IsUnseenAfter rules has.before) (length has.before) has.entry f → IsFaultAfter (IsOtherAfter rules has.before) (length has.before) has.entry f
-  by (inl full) = inl full
-  by (inr wrong) = inr (wrong.0, λ config same. other_reply (world_after (first_world config) has.before) has.entry.event has.entry.reply f (wrong.1 config same))

@@ -4,9 +4,9 @@ pub mod LegalLemmas
 pub mod VerdictLemmas
 pub mod JudgeLemmas
 pub mod TextLemmas
-pub mod FaultLemmas
 pub mod FullLemmas
 pub mod StrictLemmas
-pub mod LookLemmas
 pub mod ExplainedLemmas
 pub mod OfJudging
+pub mod OpenedLemmas
+pub mod WatchLemmas

@@ -1,5 +1,5 @@
 -- Histories in which no heap may be full, and what was looked through of a history.
-use Rattle.std.specs.Prelude.{◌≡◌, ◌⊎◌, ℕ, ◌-◌, ◌≤◌, Bool, true, false, Option, Some, None, List, count_by, length, take}
+use Rattle.std.specs.Prelude.{◌≡◌, Bool, true, false, Option, Some, None, List, count_by, length, take}
 use Rattle.mh_judging.specs.declared.entry_fault.EntryFault.{EntryFault}
 use Rattle.mh_model.specs.declared.command.Control.TheVariants.{Quantum, Start}
 use Rattle.mh_model.specs.declared.command.Event.{Event}
@@ -9,7 +9,6 @@ use Rattle.mh_model.specs.declared.history.Entry.{Entry}
 use Rattle.mh_model.specs.declared.history.Verdict.{Verdict}
 use Rattle.mh_model.specs.declared.history.Verdict.TheVariants.{FirstBad}
 use Rattle.mh_model.specs.declared.reply.Reply.{Reply}
-use Rattle.mh_model.specs.Script.{Reading, BadLine, Means}
 use Rattle.mh_model.specs.Sessions.{SeenText, Whole, CutOff, Bad, IsLegalForSessions}
 use Rattle.mh_model.specs.Snapshot.{is_heap_full}
 use Rattle.mh_sessions.specs.declared.tally.Tally.{Tally}
@@ -65,20 +64,8 @@ abbrev pub looked_through : Verdict → List Entry → List Entry
 looked_through (FirstBad number) entries = take number entries
 looked_through _ entries = entries
 
--- the tally beside the verdict on entries that are read; none if there is a bad line
-abbrev pub tally_on : Verdict → Reading (List Entry) → Option Tally
-tally_on verdict (BadLine line) = None
-tally_on verdict (Means entries) = Some (tally_of (looked_through verdict entries))
-
 -- the tally beside the verdict on a text, of whose lines those before a last one that was cut off count
 abbrev pub tally_beside : Verdict → SeenText → Option Tally
 tally_beside verdict (Whole named entries) = Some (tally_of (looked_through verdict entries))
 tally_beside verdict (CutOff named line entries) = Some (tally_of (looked_through verdict entries))
 tally_beside verdict (Bad line) = None
-
--- so many entries were looked through at most, and where no heap may be full, none after the first that is
-pub record IsLookedThrough (may_be_full : Bool) (most : ℕ) (entries : List Entry) (tally : Tally) : Type 0 where
-  pub counted : tally ≡ tally_of (take tally.entries entries)
-  pub within : tally.entries ≤ most
-  pub before : may_be_full ≡ false → count_by is_full (take (tally.entries - 1) entries) ≡ 0
-  pub all : (may_be_full ≡ true) ⊎ (tally.full ≡ 0) → tally.entries ≡ most

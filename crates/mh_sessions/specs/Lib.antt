@@ -1,6 +1,7 @@
 pub mod Faults
 pub mod Full
-pub mod Judging
 pub mod Laws
 pub mod Texts
 pub mod OfJudging
+pub mod Watching
+pub mod WatchRules

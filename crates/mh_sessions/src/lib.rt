@@ -6,11 +6,8 @@
 
 pub use mh_judging;
 
-mod fault;
-pub mod judge;
 pub mod laws;
-mod lines;
-mod look;
 pub mod sessions_judgement;
 pub mod tally;
 pub mod texts;
+pub mod watch;

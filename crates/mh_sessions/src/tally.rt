@@ -23,7 +23,7 @@ pub struct Tally {
 }
 
 /// Whether a session is answered that the heap is full.
-fn is_full(entry: &Entry) -> bool
+pub(crate) fn is_full(entry: &Entry) -> bool
     ensures { result ≡ is_full entry.now }
 {
     matches!(entry.event, Event::Session(..))

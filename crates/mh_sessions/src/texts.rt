@@ -12,41 +12,35 @@
 //! line that was cut off is refused: nobody knows what it was to be. `check_script` and `audit_script` refuse such a
 //! text in any case.
 //!
-//! Where no heap may be full, the first full entry is bad, unless another comes before it. What was looked through is
-//! counted after the verdict, for which the entries are read once more.
-ghost use Rattle.std.specs.Prelude.{◌≡◌, ◌≢◌, ◌<◌, ◌≤◌, ◌+◌, ◌^◌, true, List, length, map, IfOk, IfErr, OnErr, IsErrOf};
+//! Each line is read once, whatever the text is: entries are followed and counted as they are read.
+ghost use Rattle.std.specs.Prelude.{◌≡◌, ◌≢◌, ◌<◌, ◌^◌, Bool, Option, IfOk, IfErr, OnErr, IsErrOf};
+ghost use Rattle.mh_model.specs.declared.config.Rules.{Rules};
 ghost use Rattle.std.specs.Io.KnownBytes.{Keeps};
-ghost use Rattle.mh_history.specs.Beginnings.{HasEntry, entries_left};
 ghost use Rattle.mh_judging.specs.Judgements.{verdict_of};
-ghost use Rattle.mh_judging.specs.Judged.{BeginsToJudge, Explains, IsVerdictOn, Judges};
-ghost use Rattle.mh_model.specs.declared.history.Entry.{Entry};
-ghost use Rattle.mh_model.specs.declared.history.Verdict.TheVariants.{FirstBad, Legal};
+ghost use Rattle.mh_judging.specs.Judged.{BeginsToJudge, Explains, Judges};
+ghost use Rattle.mh_model.specs.declared.history.Verdict.TheVariants.{Refused};
 ghost use Rattle.mh_model.specs.Bytes.{cut_after};
-ghost use Rattle.mh_model.specs.Limits.{most_entries};
-ghost use Rattle.mh_model.specs.Script.{BadLine, Means, reading_map};
-ghost use Rattle.mh_model.specs.Sessions.{IsLegalForSessions, entries_reading, is_of_version_one, rules_named, rules_or, seen_text, whole_lines};
+ghost use Rattle.mh_model.specs.Script.{BadLine};
+ghost use Rattle.mh_model.specs.Sessions.{Bad, entries_reading, is_of_version_one, rules_named, rules_or, seen_text};
 ghost use Rattle.mh_judging.specs.OfScript.Texts.{Blames, LeavesSource, WantsMemory};
-ghost use Rattle.mh_sessions.specs.Full.{IsLookedThrough, tally_beside, tally_on};
-ghost use Rattle.mh_sessions.specs.Texts.{BeginsWithEither, IsExplainedInAll, IsFaultInAll, IsReasonOf, IsSeenExplained, IsSeenThroughBy, IsTallied, IsVerdictOnAll, version_of};
-ghost use Rattle.mh_text.specs.TextErrors.{Refuses};
+ghost use Rattle.mh_sessions.specs.Full.{tally_beside};
+ghost use Rattle.mh_sessions.specs.Texts.{BeginsWithEither, IsReasonOf, IsRefusedWith, IsSeenExplained, IsSeenThroughBy, IsTallied, version_of};
+ghost use Rattle.mh_sessions.specs.Watching.{IsOpened};
 
-use crate::fault::fault_in;
-use crate::judge::SessionsJudge;
 use crate::laws::full_heaps_are_judged;
-use crate::lines::SeenLine;
-use crate::look::{is_full_before, look_through};
 use crate::sessions_judgement::SessionsJudgement;
-use crate::tally::Tally;
+use crate::watch::Watch;
 use mh_history::header::header_of;
-use mh_history::lines::{RefusedLine, next_entry};
+use mh_history::history::HISTORY_BYTES;
+use mh_history::lines::RefusedLine;
 use mh_history::record::RECORD_BYTES;
-use mh_judging::entry_fault::EntryFault;
-use mh_judging::judgement::Judgement;
+use mh_judging::bad_entry::BadEntry;
+use mh_judging::following::{Follower, follow_lines};
+use mh_judging::judgement::{HistoryJudgement, Judgement, refused};
 use mh_judging::mh_script::fault::ScriptFault;
-use mh_judging::mh_script::mh_reasons::history_reason::HistoryReason;
 use mh_judging::mh_script::texts::{read_whole, write_verdict};
 use mh_model::config::Rules;
-use mh_model::history::{Entry, Measured, Verdict};
+use mh_model::history::Version;
 use mh_model::memory::NoMemory;
 use mh_text::device::DeviceFailed;
 use mh_text::pieces::{Lines, Words, split_at_byte};
@@ -55,23 +49,6 @@ use mh_text::source::Source;
 use mh_text::text_error::TextError;
 use mh_text::word::is_word;
 use std::alloc::Global;
-
-/// The verdict on the entries that are left of a history, each of which is followed as it is read.
-fn judge_lines<E: SeenLine>(
-    alloc: Global,
-    rules: Rules,
-    mut lines: Lines<'_>,
-) -> Result<Verdict, TextError>
-    ensures verdict { IfOk result (IsVerdictOn (IsLegalForSessions rules) (reading_map (map E.seen) (entries_left E.of_line lines.entry))) }
-    ensures line { IfErr result (Refuses (entries_left E.of_line lines.entry)) }
-    ensures memory { IsErrOf result TextError.NoMemory → HasEntry E.of_line lines.entry }
-{
-    let mut judge = SessionsJudge::open(alloc, rules);
-    while let Some(line) = next_entry::<E>(alloc, &mut lines)? {
-        judge.entry(line.entry())?;
-    }
-    Ok(judge.verdict())
-}
 
 /// Whether a text begins with the first line of a history of version 1.
 fn is_of_version_one(text: &[u8]) -> bool
@@ -83,150 +60,40 @@ fn is_of_version_one(text: &[u8]) -> bool
     }
 }
 
-/// The verdict on a text of some version. Its entries are replayed in the heap that never collects and not kept.
-fn verdict_on<E: SeenLine>(alloc: Global, rules: Rules, text: &[u8]) -> Result<Verdict, NoMemory>
-    requires { version_of text.now ≡ E.version }
-    ensures verdict { IfOk result (IsVerdictOnAll true rules text.now) }
-    ensures memory { OnErr result (BeginsWithEither text.now) }
-{
-    let lines = match E::seen_lines(text) {
-        Ok(lines) => lines,
-        Err(RefusedLine(line)) => return Ok(Verdict::Refused(line)),
-    };
-    match judge_lines::<E>(alloc, rules, lines) {
-        Ok(verdict) => Ok(verdict),
-        Err(TextError::Line(line)) => Ok(Verdict::Refused(line)),
-        Err(TextError::NoMemory) => Err(NoMemory),
-    }
-}
-
-/// What is wrong with the first bad entry of a text, whose entries are followed once more.
-fn entry_fault<E: SeenLine>(
-    alloc: Global,
-    rules: Rules,
-    text: &[u8],
-    number: u64,
-) -> Result<EntryFault, NoMemory>
-    requires version { version_of text.now ≡ E.version }
-    requires bad { IsVerdictOnAll true rules text.now (FirstBad number) }
-    ensures fault { IfOk result (IsFaultInAll true rules text.now number) }
-    ensures memory { OnErr result (BeginsWithEither text.now) }
-{
-    let Ok(lines) = E::seen_lines(text) else {
-        unreachable!();
-    };
-    fault_in::<E>(alloc, rules, lines, number)
-}
-
-/// The tally of so many entries of a text, or of those up to the first full one where none may be.
-fn tally_in<E: SeenLine>(
-    alloc: Global,
-    may_be_full: bool,
-    text: &[u8],
-    most: u64,
-) -> Result<Tally, NoMemory>
-    requires version { version_of text.now ≡ E.version }
-    requires entries { (entries : List Entry) × (entries_reading text.now ≡ Means entries) × (most ≤ length entries) }
-    requires few { most ≤ most_entries + 1 }
-    ensures looked { IfOk result (λ tally. (entries : List Entry) → entries_reading text.now ≡ Means entries → IsLookedThrough may_be_full most entries tally) }
-    ensures memory { OnErr result (BeginsWithEither text.now) }
-{
-    let Ok(lines) = E::seen_lines(text) else {
-        unreachable!();
-    };
-    look_through::<E>(alloc, may_be_full, lines, most)
-}
-
-/// What is found of a text whose entries are legal for their sessions, if a heap may be full.
-fn judge_legal<E: SeenLine>(
-    alloc: Global,
-    may_be_full: bool,
-    rules: Rules,
-    text: &[u8],
-    count: u64,
-) -> Result<SessionsJudgement, NoMemory>
-    requires version { version_of text.now ≡ E.version }
-    requires legal { IsVerdictOnAll true rules text.now (Legal count) }
-    ensures verdict { IfOk result (λ found. IsVerdictOnAll may_be_full rules text.now (verdict_of found.judgement)) }
-    ensures explained { IfOk result (λ found. IsExplainedInAll may_be_full rules text.now found.judgement) }
-    ensures tally { IfOk result (λ found. found.tally ≡ tally_on (verdict_of found.judgement) (entries_reading text.now)) }
-    ensures memory { OnErr result (BeginsWithEither text.now) }
-{
-    let tally = tally_in::<E>(alloc, may_be_full, text, count)?;
-    if is_full_before(may_be_full, &tally, count + 1) {
-        return Ok(SessionsJudgement::full(tally));
-    }
-    Ok(SessionsJudgement {
-        judgement: Judgement::Legal(count),
-        tally: Some(tally),
-    })
-}
-
-/// The same of a text that has a bad entry, also if a heap may be full.
-fn judge_bad<E: SeenLine>(
-    alloc: Global,
-    may_be_full: bool,
-    rules: Rules,
-    text: &[u8],
-    number: u64,
-) -> Result<SessionsJudgement, NoMemory>
-    requires version { version_of text.now ≡ E.version }
-    requires bad { IsVerdictOnAll true rules text.now (FirstBad number) }
-    ensures verdict { IfOk result (λ found. IsVerdictOnAll may_be_full rules text.now (verdict_of found.judgement)) }
-    ensures explained { IfOk result (λ found. IsExplainedInAll may_be_full rules text.now found.judgement) }
-    ensures tally { IfOk result (λ found. found.tally ≡ tally_on (verdict_of found.judgement) (entries_reading text.now)) }
-    ensures memory { OnErr result (BeginsWithEither text.now) }
-{
-    let tally = tally_in::<E>(alloc, may_be_full, text, number)?;
-    if is_full_before(may_be_full, &tally, number) {
-        return Ok(SessionsJudgement::full(tally));
-    }
-    let fault = entry_fault::<E>(alloc, rules, text, number)?;
-    Ok(SessionsJudgement {
-        judgement: Judgement::FirstBad { number, fault },
-        tally: Some(tally),
-    })
-}
-
-/// The verdict on a text of some version, and what is wrong with it. Up to its first bad entry it is followed twice.
-fn judge_version<E: SeenLine>(
-    alloc: Global,
-    may_be_full: bool,
-    rules: Rules,
-    text: &[u8],
-) -> Result<SessionsJudgement, NoMemory>
-    requires { version_of text.now ≡ E.version }
-    ensures verdict { IfOk result (λ found. IsVerdictOnAll may_be_full rules text.now (verdict_of found.judgement)) }
-    ensures explained { IfOk result (λ found. IsExplainedInAll may_be_full rules text.now found.judgement) }
-    ensures tally { IfOk result (λ found. found.tally ≡ tally_on (verdict_of found.judgement) (entries_reading text.now)) }
-    ensures memory { OnErr result (BeginsWithEither text.now) }
-{
-    match verdict_on::<E>(alloc, rules, text)? {
-        Verdict::Legal(count) => judge_legal::<E>(alloc, may_be_full, rules, text, count),
-        Verdict::FirstBad(number) => judge_bad::<E>(alloc, may_be_full, rules, text, number),
-        Verdict::Refused(line) => Ok(SessionsJudgement {
-            judgement: Judgement::refused(E::version(), text, line),
-            tally: None,
-        }),
-    }
-}
-
-/// The verdict on a text all of whose lines are to be entries, and what is wrong with it.
-fn judge_all(
-    alloc: Global,
-    may_be_full: bool,
-    rules: Rules,
-    text: &[u8],
-) -> Result<SessionsJudgement, NoMemory>
-    ensures verdict { IfOk result (λ found. IsVerdictOnAll may_be_full rules text.now (verdict_of found.judgement)) }
-    ensures explained { IfOk result (λ found. IsExplainedInAll may_be_full rules text.now found.judgement) }
-    ensures tally { IfOk result (λ found. found.tally ≡ tally_on (verdict_of found.judgement) (entries_reading text.now)) }
-    ensures memory { OnErr result (BeginsWithEither text.now) }
+/// The version as which a text is read, by its first line.
+fn version_of(text: &[u8]) -> Version
+    ensures { result ≡ version_of text.now }
 {
     if is_of_version_one(text) {
-        return judge_version::<Entry>(alloc, may_be_full, rules, text);
+        Version::One
+    } else {
+        Version::Two
     }
-    judge_version::<Measured>(alloc, may_be_full, rules, text)
+}
+
+/// The version of a text and its lines after the first, not read yet.
+fn seen_lines(text: &[u8]) -> Result<(Version, Lines<'_>), RefusedLine>
+    ensures lines { IfOk result (λ read. IsOpened text.now read.0 read.1) }
+    ensures line { IfErr result (λ refused. IsRefusedWith text.now refused.0) }
+{
+    if text.len() > RECORD_BYTES {
+        return Err(RefusedLine(0));
+    }
+    let mut lines = Lines::new(text);
+    let Some((_, line)) = lines.next_line() else {
+        return Err(RefusedLine(1));
+    };
+    if is_word(line, b"history 1") {
+        return if text.len() > HISTORY_BYTES {
+            Err(RefusedLine(0))
+        } else {
+            Ok((Version::One, lines))
+        };
+    }
+    match header_of(Words::new(line)) {
+        Some(_) => Ok((Version::Two, lines)),
+        None => Err(RefusedLine(1)),
+    }
 }
 
 /// The rules that the first line of a text names, which are the first ones in version 1.
@@ -252,58 +119,13 @@ fn rules_for(asked: Option<Rules>, text: &[u8]) -> Rules
     }
 }
 
-/// A text up to the end of its last line that has one.
-fn whole_lines(text: &[u8]) -> &[u8]
-    ensures { result.now ≡ whole_lines text.now }
+/// That a text is refused with its first bad line, and why.
+fn refused_at(text: &[u8], line: u64) -> HistoryJudgement
+    requires { entries_reading text.now ≡ BadLine line }
+    ensures verdict { verdict_of result ≡ Refused line }
+    ensures explained { (may_be_full : Bool) (asked : Option Rules) → IsSeenExplained may_be_full asked text.now result }
 {
-    let mut rest = text;
-    while let Some((_, after)) = split_at_byte(rest, b'\n') {
-        rest = after;
-    }
-    &text[..text.len() - rest.len()]
-}
-
-/// The judgement on a text with a bad line. If that is its last, which has no end, the history was cut off, and the entries
-/// before are judged.
-fn judge_refused(
-    alloc: Global,
-    may_be_full: bool,
-    asked: Option<Rules>,
-    text: &[u8],
-    line: u64,
-    reason: HistoryReason,
-) -> Result<SessionsJudgement, NoMemory>
-    requires bad { entries_reading text.now ≡ BadLine line }
-    requires reason { IsReasonOf text.now line reason }
-    ensures verdict { IfOk result (λ found. IsSeenThroughBy may_be_full asked text.now (verdict_of found.judgement)) }
-    ensures explained { IfOk result (λ found. IsSeenExplained may_be_full asked text.now found.judgement) }
-    ensures tally { IfOk result (λ found. found.tally ≡ tally_beside (verdict_of found.judgement) (seen_text text.now)) }
-    ensures memory { OnErr result (BeginsWithEither text.now) }
-{
-    let refused = Judgement::Refused { line, reason };
-    if line == 0 {
-        return Ok(SessionsJudgement {
-            judgement: refused,
-            tally: None,
-        });
-    }
-    let rules = rules_for(asked, text);
-    let SessionsJudgement { judgement, tally } = judge_all(
-        alloc,
-        may_be_full,
-        rules,
-        whole_lines(text),
-    )?;
-    match judgement {
-        Judgement::FirstBad { number, fault } => Ok(SessionsJudgement {
-            judgement: Judgement::FirstBad { number, fault },
-            tally,
-        }),
-        Judgement::Legal(_) | Judgement::Refused { .. } => Ok(SessionsJudgement {
-            judgement: refused,
-            tally,
-        }),
-    }
+    refused(version_of(text), text, line)
 }
 
 /// The verdict on a text of either version by what its sessions see, under the rules that are asked for or that it names,
@@ -319,24 +141,36 @@ pub fn judge_sessions(
     ensures tally { IfOk result (λ found. found.tally ≡ tally_beside (verdict_of found.judgement) (seen_text text.now)) }
     ensures memory { OnErr result (BeginsWithEither text.now) }
 {
-    let SessionsJudgement { judgement, tally } = judge_all(
-        alloc,
-        may_be_full,
-        rules_for(asked, text),
-        text,
-    )?;
-    match judgement {
-        Judgement::Legal(count) => Ok(SessionsJudgement {
-            judgement: Judgement::Legal(count),
-            tally,
-        }),
-        Judgement::FirstBad { number, fault } => Ok(SessionsJudgement {
-            judgement: Judgement::FirstBad { number, fault },
-            tally,
-        }),
-        Judgement::Refused { line, reason } => {
-            judge_refused(alloc, may_be_full, asked, text, line, reason)
+    let (version, mut lines) = match seen_lines(text) {
+        Ok(read) => read,
+        Err(RefusedLine(line)) => {
+            return Ok(SessionsJudgement {
+                judgement: refused_at(text, line),
+                tally: None,
+            });
         }
+    };
+    let mut watch = Watch::open(alloc, version, may_be_full, rules_for(asked, text));
+    match follow_lines(alloc, &mut watch, &mut lines) {
+        Ok(Some(BadEntry { number, fault })) => Ok(SessionsJudgement {
+            judgement: Judgement::FirstBad { number, fault },
+            tally: Some(watch.tally()),
+        }),
+        Ok(None) if lines.is_empty() => Ok(SessionsJudgement {
+            judgement: Judgement::Legal(watch.followed()),
+            tally: Some(watch.tally()),
+        }),
+        Ok(None) => Ok(SessionsJudgement {
+            judgement: refused_at(text, lines.number()),
+            tally: Some(watch.tally()),
+        }),
+        Err(error) => match error {
+            TextError::Line(line) => Ok(SessionsJudgement {
+                judgement: refused_at(text, line),
+                tally: None,
+            }),
+            TextError::NoMemory => Err(NoMemory),
+        },
     }
 }
 

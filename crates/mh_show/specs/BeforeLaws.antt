@@ -23,7 +23,7 @@ drawn_numbers table page (Some size ∷ Some flag ∷ []) = set table page (Some
 drawn_numbers table place (Some birth ∷ Some part ∷ Some stamp ∷ forward ∷ Some references ∷ Some numbers ∷ []) = with_block table place (Some (drawn_block birth part stamp forward references numbers))
 drawn_numbers table first _ = table
 
--- and after rows in order
+-- the pages after rows in order
 abbrev pub drawn_rows : Table Drawn → List PageRow → Table Drawn
 drawn_rows table [] = table
 drawn_rows table (row ∷ rows) = drawn_rows (drawn_numbers table row.kind row.numbers) rows

@@ -14,7 +14,7 @@ abbrev pub stands : Stand → List Deed → List Stand
 stands stand [] = stand ∷ []
 stands stand (deed ∷ later) = stand_after stand deed ∷ stands (stand_after stand deed) later
 
--- the same after those of them that are kept of a long run, and at last
+-- where the cursor stands after each deed that is kept of a long run, and at last
 abbrev pub stands_of_kept : Stand → List Deed → List Stand
 stands_of_kept stand [] = stand ∷ []
 stands_of_kept stand (deed ∷ later) =

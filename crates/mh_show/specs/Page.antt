@@ -78,7 +78,7 @@ unfoldable pub shown_events_text : ℕ → Machine → List Event → Text
 shown_events_text count machine [] = []
 shown_events_text count machine (event ∷ events) = event_line count machine event ++ shown_events_text (count + deed_count (account_of machine event)) (event_step machine event).state events
 
--- Those of these events, from the first on, whose lines fit together into so many bytes
+-- The events, from the first on, whose lines fit together into so many bytes
 unfoldable pub fitting : ℕ → ℕ → Machine → List Event → List Event
 fitting room count machine [] = []
 fitting room count machine (event ∷ events) =

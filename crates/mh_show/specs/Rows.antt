@@ -27,7 +27,7 @@ tier_number tier.Dense = 0
 tier_number tier.Fresh = 1
 tier_number tier.Sparse = 2
 
--- which part of which object
+-- the numbers of a block's name: which object, and which part of it
 abbrev pub name_numbers : PartName → List (Option ℕ)
 name_numbers name = Some name.birth ∷ Some name.part ∷ []
 
@@ -88,7 +88,7 @@ is_drawn _ = true
 abbrev pub is_kept : Deed → List Deed → Bool
 is_kept deed later = is_drawn deed || (moves_cursor deed && not (moves_next later))
 
--- those of these deeds that are kept of a long run
+-- the deeds that are kept of a long run
 abbrev pub kept_deeds : List Deed → List Deed
 kept_deeds [] = []
 kept_deeds (deed ∷ later) = if is_kept deed later then deed ∷ kept_deeds later else kept_deeds later
@@ -100,7 +100,7 @@ shown_deeds false deeds = kept_deeds deeds
 
 -- Roots ------------------------------------------------------------------------------------------
 
--- the same reference, or both null
+-- two references are the same, or both are null
 abbrev pub same_reference : Option ℕ → Option ℕ → Bool
 same_reference None None = true
 same_reference (Some a) (Some b) = a == b

@@ -26,7 +26,7 @@ quarters_of Three = 12
 abbrev pub pages_in : ℕ → Times → ℕ
 pages_in pages times = min (div_ceil (pages * quarters_of times) 4) 4096
 
--- these are what looking at the run in so many times the fewest pages came to
+-- what looking at the run in so many times the fewest pages came to
 pub record AreRows (config : Config) (events : List Event) (window pages : ℕ) (rows : Rows) : Type 0 where
   pub one : IsOutcome config events (pages_in pages One) window rows.one
   pub one_and_a_quarter : IsOutcome config events (pages_in pages OneAndAQuarter) window rows.one_and_a_quarter

@@ -1,6 +1,6 @@
 -- Heaps with room: how they are found, and what the law of room says of them.
-use Rattle.std.proofs.Common.{◌≡◌, ℕ, ◌+◌, ◌-◌, ◌<◌, ◌≤◌, nat_le, true, List, ap, refl, sym, subst, ◌∙◌, inl, inr, arith}
-use Rattle.std.proofs.lemmas.Bool.{and_parts, leb-true, cases_lt}
+use Rattle.std.proofs.Common.{◌≡◌, ℕ, ◌+◌, ◌-◌, ◌≤◌, nat_le, true, List, ap, refl, sym, subst, ◌∙◌, arith}
+use Rattle.std.proofs.lemmas.Bool.{and_parts, leb-true}
 use Rattle.mh_model.specs.declared.command.Event.{Event}
 use Rattle.mh_model.specs.declared.config.Config.{Config}
 use Rattle.mh_model.specs.declared.config.Rules.TheVariants.{Second}
@@ -14,11 +14,10 @@ use Rattle.mh_orders.specs.declared.room_options.RoomOptions.{RoomOptions}
 use Rattle.mh_room_laws.specs.Rates.{HasRoomAtRate, interval_units, opens_at_rate}
 use Rattle.mh_room_laws.specs.Rooms.{EachRunHasItsRoom}
 use Rattle.mh_room_laws.proofs.room.IntervalSteps.{some-quanta}
-use Rattle.mh_sizing.specs.Choices.{HasNone}
 use Rattle.mh_sizing.specs.Rates.{allowed_by}
 use Rattle.mh_sizing.specs.Room.{HasQuantum, HasRoom, IsRoomForAll, IsRoomHeap, KeepToLength, cycle_quanta, opens_in}
 use Rattle.mh_sizing.specs.declared.room.RoomHeap.{RoomHeap}
-use Rattle.mh_sizing.proofs.LimitLemmas.{limits, within}
+use Rattle.mh_sizing.proofs.LimitLemmas.{limits}
 use Rattle.mh_sizing.proofs.RateLemmas.{rates_grow}
 
 -- Pages that are tried ---------------------------------------------------------------------------
@@ -30,17 +29,6 @@ OpensWith options pages opens = (config : Config) → config.pages ≡ pages →
 -- No configuration with fewer pages has room
 abbrev pub NoneBefore : RoomOptions → ℕ → Type 0
 NoneBefore options pages = (config : Config) → HasRoom options config → pages ≤ config.pages
-
-pub none_at : (options : RoomOptions) (pages opens : ℕ) → OpensWith options pages opens → pages < options.used + opens → NoneBefore options pages → NoneBefore options (pages + 1)
-none_at options pages opens is over before config has = elim (cases_lt pages config.pages) [
-  | inl more ↦ omega (arith, more)
-  | inr less ↦
-      let same : config.pages ≡ pages = omega (arith, less, before config has) in
-      absurd (omega (arith, same, over, has.pages, is config same has.quantum))
-]
-
-pub none_at_all : (options : RoomOptions) (pages : ℕ) → 4096 < pages → NoneBefore options pages → HasNone (HasRoom options)
-none_at_all options pages past before config has = omega (arith, past, before config has, (within config).few)
 
 -- Heaps that are found ---------------------------------------------------------------------------
 

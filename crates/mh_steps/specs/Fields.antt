@@ -35,7 +35,7 @@ abbrev pub optional_place : Option ℕ → Value
 optional_place None = Nothing
 optional_place (Some place) = At place
 
--- which part of which object
+-- the fields of a block's name: which object, and which part of it
 abbrev pub name_fields : PartName → List Field
 name_fields name = field (codes "birth") (Number name.birth) ∷ field (codes "part") (Number name.part) ∷ []
 

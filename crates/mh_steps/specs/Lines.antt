@@ -79,7 +79,7 @@ abbrev pub deed_head : Form → Text → ℕ → Text → Text
 deed_head form.Text indent number verb = indent ++ verb
 deed_head form.Json indent number verb = event_key number ++ (key_text form.Json (codes "deed") ++ quoted verb)
 
--- and that of a quantum
+-- how the line of a quantum begins
 abbrev pub quantum_head : Form → ℕ → Text
 quantum_head form.Text number = codes "  quantum"
 quantum_head form.Json number = event_key number ++ codes ",\"quantum\":\"ran\""

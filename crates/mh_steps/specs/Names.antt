@@ -13,7 +13,7 @@ abbrev pub name_line : Form → Text → Text → Text
 name_line form.Text word name = codes "session " ++ (word ++ (codes " is " ++ (name ++ codes "\n")))
 name_line form.Json word name = codes "{\"session\":\"" ++ (word ++ (codes "\",\"name\":\"" ++ (name ++ codes "\"}\n")))
 
--- the same of the session of this number, unless its name is its word
+-- the line that names the session of this number, and nothing if its name is its word
 abbrev pub name_text : Form → ℕ → Text → Text
 name_text form number name = if is_text name (session_word number) then [] else name_line form (session_word number) name
 

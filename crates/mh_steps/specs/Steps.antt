@@ -27,7 +27,7 @@ event_text steps number machine event =
     let moment = moment_of number machine answer.state in
     entry_line steps.form moment (record { event = event; reply = answer.reply }) ++ deeds_text steps moment (counts_of answer.state.heap.collector) machine.heap.config.quantum (account_of machine event)
 
--- The same of events in turn, of which the first has this number
+-- The text of events in turn, of which the first has this number
 unfoldable pub events_text : Steps → ℕ → Machine → List Event → Text
 events_text steps number machine [] = []
 events_text steps number machine (event ∷ events) = event_text steps number machine event ++ events_text steps (suc number) (event_step machine event).state events
@@ -36,13 +36,13 @@ events_text steps number machine (event ∷ events) = event_text steps number ma
 abbrev pub steps_text : Steps → Config → List Event → Text
 steps_text steps config events = events_text steps 1 (first_machine config) events
 
--- The same of a run of this script, below its configuration and the names of its sessions
+-- The steps of a run of this script, below its configuration and the names of its sessions
 abbrev pub told_text : Steps → Text → Config → List Event → Text
 told_text steps script config events = config_line steps.form config ++ (names_text steps.form 0 (names_in script) ++ steps_text steps config events)
 
 -- Replies that are shown -------------------------------------------------------------------------
 
--- These events in turn, each with its reply, were written so, and nothing else was. The first of them has this number
+-- Events in turn, each with its reply, were written so, and nothing else was. The first of them has this number
 abbrev pub AreInTurn : {A : Type 0} → (ℕ → Entry → List A → Type 0) → ℕ → List Event → List Reply → List A → Type 0
 AreInTurn IsWritten number [] [] written = written ≡ []
 AreInTurn IsWritten number (event ∷ events) (reply ∷ replies) written =

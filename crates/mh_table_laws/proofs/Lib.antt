@@ -3,3 +3,5 @@ pub mod objects
 pub mod marking
 pub mod TableMapLemmas
 pub mod PageMapLemmas
+pub mod placing
+pub mod tables

@@ -8,9 +8,9 @@ use Rattle.std.proofs.lemmas.Bool.Decides.{nat_tests}
 use Rattle.mh_model.specs.declared.command.Command.{Command}
 use Rattle.mh_model.specs.declared.command.Event.TheVariants as event
 use Rattle.mh_text.specs.declared.verbs.VerbOfThree.{VerbOfThree}
-use Rattle.mh_text.specs.declared.verbs.VerbOfThree.TheVariants.{New, Get, Put, Write}
+use Rattle.mh_text.specs.declared.verbs.VerbOfThree.TheVariants.{New}
 use Rattle.mh_text.specs.declared.verbs.VerbOfTwo.{VerbOfTwo}
-use Rattle.mh_text.specs.declared.verbs.VerbOfTwo.TheVariants.{Copy, Read, Same, Post, Take}
+use Rattle.mh_text.specs.declared.verbs.VerbOfTwo.TheVariants.{Copy}
 use Rattle.mh_text.specs.declared.verbs.VerbOfOne.{VerbOfOne}
 use Rattle.mh_text.specs.declared.verbs.VerbOfOne.TheVariants.{Clear, Shape}
 use Rattle.mh_model.specs.Bytes.{Text, Cut, cut_after, with_byte, words, is_text, is_digit, is_letter, is_numeral, is_name, value_after, number}
@@ -259,14 +259,6 @@ cut_there (byte ∷ bytes) (suc count) below =
     rw one (ap (λ (t : Text). byte ∷ t) (cut_there bytes count (omega arith)))
 
 -- Numbers of one digit and of two ----------------------------------------------------------------
-
-pub one_digit : (end : ℕ) (text : Text) → 2 ≤ length text → get_or text 1 0 ≡ end → is_digit (get_or text 0 0) ≡ true → BeginsWithNumberBefore end text (get_or text 0 0 - 48) (take (length text - 2) (drop 2 text))
-one_digit end [] long after digit = absurd (omega arith)
-one_digit end (byte ∷ []) long after digit = absurd (omega arith)
-one_digit end (byte ∷ next ∷ rest) long after digit =
-    let small : nat_lt (10 * 0 + (byte - 48)) (2 ^ 64) ≡ true = grind (arith, nat_tests) in
-    let value : 10 * 0 + (byte - 48) ≡ byte - 48 = omega arith in
-    record { word = byte ∷ []; whole = rw (take_rest, after) refl; is = rw (digit, small, value) refl }
 
 pub two_digits : (end : ℕ) (text : Text) → 3 ≤ length text → get_or text 2 0 ≡ end → is_digit (get_or text 0 0) ≡ true → is_digit (get_or text 1 0) ≡ true → (get_or text 0 0 ≡ 48 → ⊥)
     → BeginsWithNumberBefore end text ((get_or text 0 0 - 48) * 10 + (get_or text 1 0 - 48)) (take (length text - 3) (drop 3 text))

@@ -121,7 +121,7 @@ impl<'a> Words<'a> {
         Some((Words { left: before }, Words { left: after }))
     }
 
-    /// The same words once more.
+    /// These words once more, for a second reading.
     pub fn copy(&self) -> Words<'a>
         ensures { result ≡ self.now }
     {

@@ -1,5 +1,1 @@
 pub mod WholeLines
-pub mod LineReaders
-pub mod ScriptLines
-pub mod HistoryLines
-pub mod FirstBadLine

@@ -30,7 +30,3 @@ MigratedTextsAreLegal = (config : Config) (text written : Text) (count : ℕ) �
 -- Each text is migrated to some text, under each configuration
 abbrev pub TextsAreMigrated : Type 0
 TextsAreMigrated = (config : Config) (text : Text) → (written : Text) × IsMigratedTo config text written
-
--- No text is migrated to two texts, under one configuration
-abbrev pub TextsAreMigratedToOne : Type 0
-TextsAreMigratedToOne = (config : Config) (text one other : Text) → IsMigratedTo config text one → IsMigratedTo config text other → one ≡ other

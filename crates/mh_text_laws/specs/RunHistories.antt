@@ -3,15 +3,13 @@ use Rattle.std.specs.Prelude.{◌≡◌, ◌≤◌, List, length, map, take}
 use Rattle.mh_model.specs.declared.command.Event.{Event}
 use Rattle.mh_model.specs.declared.config.Config.{Config}
 use Rattle.mh_model.specs.declared.config.Rules.{Rules}
-use Rattle.mh_model.specs.declared.config.Rules.TheVariants.{Second}
 use Rattle.mh_model.specs.declared.history.Verdict.TheVariants.{Legal}
 use Rattle.mh_model.specs.Bytes.{Text}
 use Rattle.mh_model.specs.HistoryTexts.{IsAudited, recorded_reading}
 use Rattle.mh_model.specs.Limits.{most_entries}
 use Rattle.mh_model.specs.Machine.{first_machine, machine_replies}
-use Rattle.mh_model.specs.Output.{output}
-use Rattle.mh_model.specs.RunHistories.{history_output, output_under, reading_under, recorded_run}
-use Rattle.mh_model.specs.Script.{Meaning, Means, reading}
+use Rattle.mh_model.specs.RunHistories.{history_output, reading_under, recorded_run}
+use Rattle.mh_model.specs.Script.{Meaning, Means}
 
 -- A text is the history of a run of these events. It is read as their record, and found legal with as many entries. The replies are the run's
 pub record IsRunHistory (config : Config) (events : List Event) (written : Text) : Type 0 where
@@ -24,8 +22,3 @@ pub record IsRunHistory (config : Config) (events : List Event) (written : Text)
 abbrev pub RunHistoriesAreLegal : Type 0
 RunHistoriesAreLegal = (rules : Rules) (text : Text) (script : Meaning) → reading_under rules text ≡ Means script → length (history_output rules text) ≤ 2147483648
     → IsRunHistory script.config (take most_entries script.events) (history_output rules text)
-
--- Without options a script is under the second rules: under these its reading and its output are those without options
-pub record ScriptsAreUnderTheSecondRules : Type 0 where
-  pub readings : (text : Text) → reading_under Second text ≡ reading text
-  pub outputs : (text : Text) → output_under Second text ≡ output text

@@ -1,5 +1,5 @@
 //! Laws of migration.
-ghost use Rattle.mh_text_laws.specs.Migration.{MigrationKeepsHistories, MigratedTextsAreLegal, TextsAreMigrated, TextsAreMigratedToOne};
+ghost use Rattle.mh_text_laws.specs.Migration.{MigrationKeepsHistories, MigratedTextsAreLegal, TextsAreMigrated};
 
 /// A legal history of version 1 is migrated to a legal one of version 2 with the same entries.
 pub fn migration_keeps_histories()
@@ -14,9 +14,4 @@ pub fn migrated_texts_are_legal()
 /// Every text is migrated.
 pub fn texts_are_migrated()
     ensures { TextsAreMigrated }
-{}
-
-/// A text is migrated to one text at most.
-pub fn texts_are_migrated_to_one()
-    ensures { TextsAreMigratedToOne }
 {}

@@ -48,7 +48,7 @@ pub record IsPercentile (part : ℕ) (lengths : List ℕ) (units : ℕ) : Type 0
   pub least : (bound : ℕ) → CoversPart part lengths bound → units ≤ bound
   pub is_length : Contains lengths units
 
--- there is none exactly if there is no pause
+-- a percentile of the pauses, and none exactly if there is no pause
 abbrev pub IsPercentileIfAny : ℕ → List ℕ → Option ℕ → Type 0
 IsPercentileIfAny part lengths percentile = MatchOption percentile (lengths ≡ []) (IsPercentile part lengths)
 

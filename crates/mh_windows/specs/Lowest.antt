@@ -27,7 +27,7 @@ abbrev pub slid_on : LowestState → Passing → LowestState
 slid_on lowest passing =
     here (lowest.count + mutator_units passing.enters 1 - mutator_units passing.leaves 1) (record lowest { start = suc lowest.start; left = lowest.left - 1 })
 
--- and so many in turn
+-- letters leave a stretch and enter it in turn
 abbrev pub slid_over : LowestState → List Passing → LowestState
 slid_over lowest [] = lowest
 slid_over lowest (passing ∷ passings) = slid_over (slid_on lowest passing) passings

@@ -19,7 +19,7 @@ pub record PauseState : Type 0 where
   pub longest : Pause
   pub left : ℕ
 
--- it has gone over so many letters
+-- the state of a search for pauses that has gone over so many letters
 pub record HasGone (letters : List Letter) (s : PauseState) : Type 0 where
   pub inside : s.place ≤ length letters
   pub here : s.here ≤ s.place

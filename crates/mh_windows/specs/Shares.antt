@@ -46,7 +46,7 @@ pub record HasFound (letters : List Letter) (from : ℕ) (s : ShareState) : Type
 abbrev pub IsNext : List Letter → ShareState → List Passing → Type 0
 IsNext letters s passed = (rest : List Passing) × (passings (drop s.start.place letters) (drop s.end.place letters) ≡ passed ++ rest)
 
--- it slides on over these
+-- the slider as it has gone on over these letters
 pub record Slides (old : ShareState) (passed : List Passing) (new : ShareState) : Type 0 where
   pub part : new.part ≡ old.part
   pub start : new.start.place ≡ old.start.place + length passed

@@ -15,7 +15,7 @@ pub struct BrokenFloor {
     pub least: u64,
     /// How many units are before that.
     pub at: u64,
-    /// And so many have to be there.
+    /// How many units of the mutator have to be there.
     pub floor: u64,
 }
 

@@ -1,7 +1,7 @@
 //! Calls of the program that may be refused memory.
 use crate::cases::AUDIT;
 use crate::comparing::Comparing;
-use crate::live_answers::{are_right, has_starved, refused_in};
+use crate::live_answers::{answers_to, are_right, has_starved, refused_in};
 use crate::program::{Errors, Silent, launch, line_order, serve, words};
 use mh_text::sink::StdSink;
 use mh_text::source::StdSource;
@@ -12,7 +12,7 @@ use std::sync::Wait;
 use std::thread::Threads;
 use test_support::environment::Words;
 use test_support::famine::Famine;
-use test_support::gates::Eager;
+use test_support::gates::Watch;
 
 /// What is right to write.
 #[derive(Clone, Copy)]
@@ -103,7 +103,7 @@ fn serve_with<R: Threads + Wait + Sync, W: Write + Drop>(
         &mut source,
         &mut sink,
         &mut errors,
-        &Eager,
+        &Watch::new(0),
         &mut Silent,
     );
     is_left?;
@@ -118,10 +118,7 @@ fn number_in(verdict: &[u8]) -> Option<u64> {
 
 /// The number of entries of a legal history.
 fn legal_entries<R: Threads + Wait + Sync>(rt: &R, alloc: Global, history: &[u8]) -> Option<u64> {
-    let mut verdict = Vec::new(alloc);
-    let mut told = Vec::new(alloc);
-    launch(rt, alloc, &Words(AUDIT), history, &mut verdict, &mut told);
-    number_in(verdict.as_slice())
+    number_in(answers_to(rt, alloc, AUDIT, history)?.as_slice())
 }
 
 fn lines_in(text: &[u8]) -> usize {

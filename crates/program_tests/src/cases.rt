@@ -157,16 +157,6 @@ const SCRIPTS: &[Case<'static>] = &[
         told: b"metroheap: line 2: \"walk\" is no command\n",
         status: 1,
     },
-    // A block that moves, and is found through a field that still names its old place.
-    Case {
-        words: RUN,
-        input: b"config 4 209 0 0\na new 0 1 59\na new 1 1 59\na new 2 1 59\na new 3 1 59\na new 4 1 59\na put 0 0 4\na clear 1\n* start\n* quantum\n* quantum\n* quantum\na write 4 0 7\n* quantum\n* dump\na get 5 0 0\na same 4 5\na read 5 0\n",
-        outputs: &[
-            b"ok\nok\nok\nok\nok\nok\nok\nok\nspent 208 phase roots\nspent 99 phase defrag\nspent 209 phase defrag\nok\nspent 5 phase idle\ndump P0 C64 - 0=0.0 1=4.0 2=2.0 3=3.0 P1 C64 + 0>0.1\nok\nyes\nnumber 7\n",
-        ],
-        told: NONE,
-        status: 0,
-    },
     // A script with a bad line after lines that are answered if it stands alone.
     Case {
         words: RUN,
@@ -182,13 +172,6 @@ const SCRIPTS: &[Case<'static>] = &[
         outputs: &[RECORD],
         told: NONE,
         status: 0,
-    },
-    Case {
-        words: RUN,
-        input: b"config\n",
-        outputs: &[b"refused 10 line 1\n"],
-        told: b"metroheap: line 1: \"config\" takes PAGES QUANTUM TRIGGER EVERY\n",
-        status: 1,
     },
 ];
 
@@ -248,20 +231,6 @@ const HISTORIES: &[Case<'static>] = &[
         status: 0,
     },
     Case {
-        words: CHECK,
-        input: BAD_HISTORY,
-        outputs: &[FIRST_BAD],
-        told: b"metroheap: line 5, entry 4: spent 8 phase idle, and right is spent 7 phase idle\n",
-        status: 4,
-    },
-    Case {
-        words: AUDIT,
-        input: BAD_RECORD,
-        outputs: &[FIRST_BAD],
-        told: b"metroheap: line 5, entry 4: units 0 8, and right is units 0 7\n",
-        status: 4,
-    },
-    Case {
         words: MIGRATE,
         input: BAD_HISTORY,
         outputs: &[FIRST_BAD],
@@ -280,7 +249,7 @@ const HISTORIES: &[Case<'static>] = &[
 
 /// Histories of the other version, and histories by what sessions see.
 const READ_OTHERWISE: &[Case<'static>] = &[
-    // Histories of the other version.
+    // A history of the other version.
     Case {
         words: CHECK,
         input: OTHER_RECORD,
@@ -288,28 +257,7 @@ const READ_OTHERWISE: &[Case<'static>] = &[
         told: b"metroheap: line 1: a history of version 2: audit reads it\n",
         status: 1,
     },
-    Case {
-        words: AUDIT,
-        input: HISTORY,
-        outputs: &[OTHER_VERSION],
-        told: b"metroheap: line 1: a history of version 1: check reads it\n",
-        status: 1,
-    },
-    Case {
-        words: MIGRATE,
-        input: OTHER_RECORD,
-        outputs: &[OTHER_VERSION],
-        told: b"metroheap: line 1: a history of version 2: audit reads it\n",
-        status: 1,
-    },
     // What sessions see, of either version.
-    Case {
-        words: CHECK_SESSIONS,
-        input: BAD_HISTORY,
-        outputs: &[LEGAL],
-        told: LOOKED_THROUGH,
-        status: 0,
-    },
     Case {
         words: CHECK_SESSIONS,
         input: BAD_RECORD,
@@ -338,13 +286,6 @@ const CURVES: &[Case<'static>] = &[
         told: NONE,
         status: 0,
     },
-    Case {
-        words: CURVE,
-        input: b"config 4 209 0 0\na walk\n",
-        outputs: &[b"refused 10 line 2\n"],
-        told: b"metroheap: line 2: \"walk\" is no command\n",
-        status: 1,
-    },
     // A unit of the mutator and then one of the collector, whatever is replied.
     Case {
         words: CURVE_HISTORY,
@@ -354,20 +295,6 @@ const CURVES: &[Case<'static>] = &[
         ],
         told: NONE,
         status: 0,
-    },
-    Case {
-        words: CURVE_HISTORY,
-        input: HISTORY,
-        outputs: &[OTHER_VERSION],
-        told: b"metroheap: line 1: a history of version 1: check reads it\n",
-        status: 1,
-    },
-    Case {
-        words: CURVE_HISTORY,
-        input: b"history 2 rules 2 4 209 0 0\ns0 clear 0 = ok units 4611686018427387904 0\n",
-        outputs: &[b"refused 10 line 0\n"],
-        told: b"metroheap: line 0: a history has fewer than 4611686018427387904 units\n",
-        status: 1,
     },
     // A log that breaks each promise.
     Case {

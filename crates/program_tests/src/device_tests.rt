@@ -1,5 +1,5 @@
 use crate::cases::{Case, GENERATED, cases, live_cases};
-use crate::trial::{Device, Devices, Outcome, SOUND_DEVICES};
+use crate::trial::{Devices, Outcome, SOUND_DEVICES};
 use crate::trouble::{Way, trouble_each_read, trouble_each_write};
 use std::alloc::Global;
 use std::io::ErrorKind;
@@ -7,45 +7,34 @@ use std::process::Abort;
 use std::sync::Wait;
 use std::test::Fail;
 use std::thread::Threads;
-use test_support::troubled::Trouble;
+use test_support::troubled::{Device, Trouble};
 
-const READS: &[Way] = &[
-    Way {
-        most: 1,
-        trouble: Trouble::Error(ErrorKind::WouldBlock),
-        outcome: Outcome::ReadFailed,
-    },
-    Way {
-        most: 7,
-        trouble: Trouble::Error(ErrorKind::WouldBlock),
-        outcome: Outcome::ReadFailed,
-    },
-    Way {
-        most: usize::MAX,
-        trouble: Trouble::Error(ErrorKind::WouldBlock),
-        outcome: Outcome::ReadFailed,
-    },
-    Way {
-        most: 7,
-        trouble: Trouble::Error(ErrorKind::UnexpectedEof),
-        outcome: Outcome::ReadFailed,
-    },
-    Way {
-        most: 7,
-        trouble: Trouble::Error(ErrorKind::OutOfMemory),
-        outcome: Outcome::ReadFailed,
-    },
-    Way {
-        most: 7,
-        trouble: Trouble::Error(ErrorKind::Interrupted),
-        outcome: Outcome::Right,
-    },
+/// By how many bytes at most a reader gives, and the error of one call.
+const READ_ERRORS: [(usize, ErrorKind); 5] = [
+    (1, ErrorKind::WouldBlock),
+    (7, ErrorKind::WouldBlock),
+    (usize::MAX, ErrorKind::WouldBlock),
+    (7, ErrorKind::UnexpectedEof),
+    (7, ErrorKind::OutOfMemory),
 ];
 
+/// One call is interrupted.
+const INTERRUPTED: Way = Way {
+    most: 7,
+    trouble: Trouble::Error(ErrorKind::Interrupted),
+    outcome: Outcome::Right,
+};
+
 fn trouble_reads<R: Threads + Wait + Sync + Abort>(rt: &R, alloc: Global, case: &Case<'_>) {
-    for way in READS {
-        trouble_each_read(rt, alloc, case, way);
+    for (most, kind) in READ_ERRORS {
+        let way = Way {
+            most,
+            trouble: Trouble::Error(kind),
+            outcome: Outcome::ReadFailed,
+        };
+        trouble_each_read(rt, alloc, case, &way);
     }
+    trouble_each_read(rt, alloc, case, &INTERRUPTED);
 }
 
 #[test]
@@ -59,48 +48,26 @@ fn each_read_has_trouble_in_turn(rt: HostRuntime) -> Result<(), Fail> {
     Ok(())
 }
 
-const WRITES: &[Way] = &[
-    Way {
-        most: 1,
-        trouble: Trouble::Error(ErrorKind::BrokenPipe),
-        outcome: Outcome::WriteFailed,
-    },
-    Way {
-        most: 7,
-        trouble: Trouble::Error(ErrorKind::BrokenPipe),
-        outcome: Outcome::WriteFailed,
-    },
-    Way {
-        most: usize::MAX,
-        trouble: Trouble::Error(ErrorKind::BrokenPipe),
-        outcome: Outcome::WriteFailed,
-    },
-    Way {
-        most: 7,
-        trouble: Trouble::Error(ErrorKind::StorageFull),
-        outcome: Outcome::WriteFailed,
-    },
-    Way {
-        most: 7,
-        trouble: Trouble::Error(ErrorKind::OutOfMemory),
-        outcome: Outcome::WriteFailed,
-    },
-    Way {
-        most: 7,
-        trouble: Trouble::NoByte,
-        outcome: Outcome::WriteFailed,
-    },
-    Way {
-        most: 7,
-        trouble: Trouble::Error(ErrorKind::Interrupted),
-        outcome: Outcome::Right,
-    },
+/// By how many bytes at most a writer takes, and the trouble of one call.
+const WRITE_TROUBLES: [(usize, Trouble); 6] = [
+    (1, Trouble::Error(ErrorKind::BrokenPipe)),
+    (7, Trouble::Error(ErrorKind::BrokenPipe)),
+    (usize::MAX, Trouble::Error(ErrorKind::BrokenPipe)),
+    (7, Trouble::Error(ErrorKind::StorageFull)),
+    (7, Trouble::Error(ErrorKind::OutOfMemory)),
+    (7, Trouble::NoByte),
 ];
 
 fn trouble_writes<R: Threads + Wait + Sync + Abort>(rt: &R, alloc: Global, case: &Case<'_>) {
-    for way in WRITES {
-        trouble_each_write(rt, alloc, case, way);
+    for (most, trouble) in WRITE_TROUBLES {
+        let way = Way {
+            most,
+            trouble,
+            outcome: Outcome::WriteFailed,
+        };
+        trouble_each_write(rt, alloc, case, &way);
     }
+    trouble_each_write(rt, alloc, case, &INTERRUPTED);
 }
 
 #[test]
@@ -223,37 +190,18 @@ fn the_status_is_the_same_where_standard_error_fails(rt: HostRuntime) -> Result<
     Ok(())
 }
 
-/// Of the calls of devices that take or give at most so many bytes, only each such one is not interrupted.
-#[derive(Clone, Copy)]
-struct Pace {
-    most: usize,
-    every: u64,
-}
-
-const PACES: &[Pace] = &[
-    Pace { most: 1, every: 2 },
-    Pace { most: 7, every: 2 },
-    Pace {
-        most: usize::MAX,
-        every: 2,
-    },
-    Pace { most: 1, every: 11 },
-    Pace { most: 7, every: 11 },
-    Pace {
-        most: usize::MAX,
-        every: 11,
-    },
-];
-
+/// Of the calls of devices that take or give at most `most` bytes, only each with a number that `every` divides is not
+/// interrupted.
 fn interrupt<R: Threads + Wait + Sync + Abort>(
     rt: &R,
     alloc: Global,
     case: &Case<'_>,
-    pace: &Pace,
+    most: usize,
+    every: u64,
 ) {
     let device = Device {
-        most: pace.most,
-        at: pace.every,
+        most,
+        at: every,
         trouble: Trouble::Interruptions,
     };
     let devices = Devices {
@@ -262,7 +210,7 @@ fn interrupt<R: Threads + Wait + Sync + Abort>(
         errors: device,
     };
     let trial = devices.run(rt, alloc, case);
-    let is_interrupted = trial.reads > pace.every && trial.writes >= pace.every;
+    let is_interrupted = trial.reads > every && trial.writes >= every;
     assert_eq!(rt; (trial.outcome, is_interrupted), (Outcome::Right, true));
 }
 
@@ -271,8 +219,9 @@ fn interrupt_at_each_pace<R: Threads + Wait + Sync + Abort>(
     alloc: Global,
     case: &Case<'_>,
 ) {
-    for pace in PACES {
-        interrupt(rt, alloc, case, pace);
+    for most in [1, 7, usize::MAX] {
+        interrupt(rt, alloc, case, most, 2);
+        interrupt(rt, alloc, case, most, 11);
     }
 }
 

@@ -2,7 +2,7 @@
 
 use std::alloc::{AllocError, Global};
 use test_support::gates::Seen;
-use test_support::graph::graph_script;
+use test_support::graph::{chain_script, graph_script, repeated, wide_script};
 
 /// A cycle that crews mark: the script, what is answered to it, and what a hook sees that wants two workers.
 #[derive(Drop)]
@@ -20,10 +20,7 @@ fn with_answers(
     answers: &[u8],
     seen: Seen,
 ) -> Result<Marked, AllocError> {
-    let mut output = Vec::new(alloc);
-    for _ in 0..accepted {
-        output.extend_from_slice(b"ok\n")?;
-    }
+    let mut output = repeated(alloc, b"", b"ok\n", accepted)?;
     output.extend_from_slice(answers)?;
     Ok(Marked {
         script,
@@ -32,14 +29,9 @@ fn with_answers(
     })
 }
 
-/// An object with 60 others in its fields, whose batches have 1, 25 and 35 places.
+/// An object with 60 others in its fields.
 pub fn wide_object(alloc: Global) -> Result<Marked, AllocError> {
-    let mut script = Vec::from_slice(alloc, b"config 8 400 0 0\na new 0 60 0\n")?;
-    for field in 0..60_u32 {
-        let lines = format!(in alloc; "a new 1 1 0\na put 0 {field} 1\n")?;
-        script.extend_from_slice(lines.as_bytes())?;
-    }
-    script.extend_from_slice(b"a clear 1\n* start\n* quantum\n* quantum\n* stat\n")?;
+    let script = wide_script(alloc)?;
     let answers =
         b"spent 399 phase mark\nspent 239 phase idle\nfree 5 live 61 old 0 phase idle cycle 1\n";
     let seen = Seen {
@@ -50,15 +42,9 @@ pub fn wide_object(alloc: Global) -> Result<Marked, AllocError> {
     with_answers(alloc, script, 123, answers, seen)
 }
 
-/// A chain of 300 objects, each batch of which has one place.
+/// A chain of 300 objects.
 pub fn chain(alloc: Global) -> Result<Marked, AllocError> {
-    let mut script = Vec::from_slice(alloc, b"config 8 209 0 0\na new 0 1 0\n")?;
-    for _ in 1..300 {
-        script.extend_from_slice(b"a new 1 1 0\na put 1 0 0\na copy 0 1\n")?;
-    }
-    script.extend_from_slice(
-        b"a clear 1\n* start\n* quantum\n* quantum\n* quantum\n* quantum\n* quantum\n* quantum\n* stat\n",
-    )?;
+    let script = chain_script(alloc)?;
     let answers =
         b"spent 208 phase roots\nspent 208 phase mark\nspent 208 phase mark\nspent 208 phase mark\nspent 209 phase sweep\nspent 163 phase idle\nfree 2 live 300 old 0 phase idle cycle 1\n";
     let seen = Seen {
@@ -95,7 +81,7 @@ pub const SLOTS: &[u8] =
 
 /// A thousand cycles over an object that leads to 1,080 others of 60 references each. All are grey at once but for those
 /// that are marked already, so a front of 1,024 blocks costs 62,464 units.
-pub fn wide_script(alloc: Global) -> Result<Vec<u8>, AllocError> {
+pub fn front_script(alloc: Global) -> Result<Vec<u8>, AllocError> {
     let mut script = Vec::from_slice(alloc, b"config 300 1000000 0 0\na new 0 1080 0\n")?;
     for field in 0..1_080_u32 {
         let lines = format!(in alloc; "a new 1 60 0\na put 0 {field} 1\n")?;

@@ -1,5 +1,5 @@
 //! The threads of the program as it is launched, which no hook watches, and what a terminal hears of a sizing.
-use crate::graph::wide_script;
+use crate::graph::front_script;
 use crate::program::launch;
 use mh_program::progress::Telling;
 use mh_size_text::progress::{Progress, Step};
@@ -67,7 +67,7 @@ fn seen_of<R: Threads + Wait + Sync + Files + AllocGlobal + Clone + Drop>(
 
 #[test]
 fn a_wide_front_starts_a_thread(rt: HostRuntime) -> Result<(), Fail> {
-    let script = wide_script(rt.alloc())?;
+    let script = front_script(rt.alloc())?;
     let seen = seen_of(&rt, rt.alloc(), &script)?;
     assert_eq!(rt; seen, (0, true));
     Ok(())

@@ -24,8 +24,6 @@ mod memory_race_tests;
 #[cfg(test)]
 mod memory_text_tests;
 #[cfg(test)]
-mod order_tests;
-#[cfg(test)]
 mod page_tests;
 #[cfg(test)]
 mod program;

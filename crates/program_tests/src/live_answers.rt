@@ -23,8 +23,8 @@ pub fn refused_in(answers: &[u8]) -> usize {
         .count()
 }
 
-/// What the lines of a text are answered with all memory there.
-fn answers_to<R: Threads + Wait + Sync>(
+/// What a text is answered with all memory there, if the status is 0.
+pub fn answers_to<R: Threads + Wait + Sync>(
     rt: &R,
     alloc: Global,
     words: &[&[u8]],

@@ -1,5 +1,5 @@
 use crate::cases::{Case, MIGRATE, NONE, RACE, RUN};
-use crate::trial::{Device, Devices, Outcome, SOUND_DEVICES, Trial};
+use crate::trial::{Devices, Outcome, SOUND_DEVICES, Trial};
 use crate::trouble::{Way, trouble_each_write};
 use std::alloc::{AllocError, Global};
 use std::io::ErrorKind;
@@ -7,7 +7,8 @@ use std::process::Abort;
 use std::sync::Wait;
 use std::test::Fail;
 use std::thread::Threads;
-use test_support::troubled::Trouble;
+use test_support::graph::repeated;
+use test_support::troubled::{Device, Trouble};
 
 const FAILURE: Trouble = Trouble::Error(ErrorKind::BrokenPipe);
 
@@ -51,18 +52,24 @@ const LONG_CASES: &[LongCase<'static>] = &[
     },
 ];
 
-/// A text of a line and another one so many times.
-fn long_text(
-    alloc: Global,
-    first: &[u8],
-    line: &[u8],
-    times: usize,
-) -> Result<Vec<u8>, AllocError> {
-    let mut text = Vec::from_slice(alloc, first)?;
-    for _ in 0..times {
-        text.extend_from_slice(line)?;
+impl LongCase<'_> {
+    fn input(&self, alloc: Global) -> Result<Vec<u8>, AllocError> {
+        repeated(alloc, self.first, self.line, self.times)
     }
-    Ok(text)
+
+    fn output(&self, alloc: Global) -> Result<Vec<u8>, AllocError> {
+        repeated(alloc, self.first_output, self.line_output, self.times)
+    }
+
+    fn case<'a>(&'a self, input: &'a [u8], outputs: &'a [&'a [u8]]) -> Case<'a> {
+        Case {
+            words: self.words,
+            input,
+            outputs,
+            told: NONE,
+            status: 0,
+        }
+    }
 }
 
 fn fail_long<R: Threads + Wait + Sync + Abort>(
@@ -71,16 +78,9 @@ fn fail_long<R: Threads + Wait + Sync + Abort>(
     long: &LongCase<'_>,
     way: &Way,
 ) -> Result<(), AllocError> {
-    let input = long_text(alloc, long.first, long.line, long.times)?;
-    let output = long_text(alloc, long.first_output, long.line_output, long.times)?;
-    let case = Case {
-        words: long.words,
-        input: input.as_slice(),
-        outputs: &[output.as_slice()],
-        told: NONE,
-        status: 0,
-    };
-    trouble_each_write(rt, alloc, &case, way);
+    let input = long.input(alloc)?;
+    let output = long.output(alloc)?;
+    trouble_each_write(rt, alloc, &long.case(&input, &[output.as_slice()]), way);
     Ok(())
 }
 
@@ -113,16 +113,9 @@ fn run_long<R: Threads + Wait + Sync>(
     long: &LongCase<'_>,
     devices: &Devices,
 ) -> Result<Trial, AllocError> {
-    let input = long_text(alloc, long.first, long.line, long.times)?;
-    let output = long_text(alloc, long.first_output, long.line_output, long.times)?;
-    let case = Case {
-        words: long.words,
-        input: input.as_slice(),
-        outputs: &[output.as_slice()],
-        told: NONE,
-        status: 0,
-    };
-    Ok(devices.run(rt, alloc, &case))
+    let input = long.input(alloc)?;
+    let output = long.output(alloc)?;
+    Ok(devices.run(rt, alloc, &long.case(&input, &[output.as_slice()])))
 }
 
 #[test]

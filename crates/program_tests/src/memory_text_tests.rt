@@ -4,18 +4,20 @@ use crate::cases::{
     AUDIT, CHECK, CHECK_SESSIONS, GENERATE, LIVE, LIVE_WORLD, MIGRATE, RACE, RANDOM_SCRIPT, RUN,
     RUN_HISTORY,
 };
+use crate::graph::wide_object;
 use crate::sweep::check;
 use crate::texts::{
     BAD_HISTORY, BAD_NUMBER, BAD_RECORD, BAD_SEEN, BAD_UNSAID, COLLECTED, COLLECTED_OUTPUT,
     COLLECTED_STEPS, CYCLE, FIRST_BAD, HISTORY, LEGAL, LINES_ANSWERED, LINES_IN_A_WORLD,
     LOOKED_THROUGH, MIGRATE_CYCLES, RECORD, REFUSED, REFUSED_OUTPUT, REFUSED_REASON, RUN_BY_TWO,
-    STEPS, crowded, crowded_output, repeated, wide, wide_output,
+    STEPS, crowded, crowded_output,
 };
 use std::alloc::{AllocError, Global};
 use std::process::Abort;
 use std::sync::Wait;
 use std::test::Fail;
 use std::thread::Threads;
+use test_support::graph::repeated;
 
 /// A call on a history of which the third entry is bad, which is reported.
 fn bad_entry<'a>(words: &'a [&'a [u8]], history: &'a [u8]) -> Call<'a> {
@@ -162,9 +164,12 @@ fn a_script_by_a_crew(rt: HostRuntime) -> Result<(), Fail> {
 
 #[test]
 fn a_crew_without_threads_and_with_them(rt: HostRuntime) -> Result<(), Fail> {
-    let script = wide(rt.alloc())?;
-    let output = wide_output(rt.alloc())?;
-    let call = Call::known(RUN_BY_TWO, script.as_bytes(), output.as_slice());
+    let marked = wide_object(rt.alloc())?;
+    let call = Call::known(
+        RUN_BY_TWO,
+        marked.script.as_slice(),
+        marked.output.as_slice(),
+    );
     check(&rt, rt.alloc(), call, 2)?;
     Ok(())
 }

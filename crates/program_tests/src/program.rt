@@ -1,7 +1,6 @@
 //! What tests call of the program, and what it prints while a hook watches its crew or its sessions.
-pub use mh_command_line::order::{line_order, order};
+pub use mh_command_line::order::line_order;
 pub use mh_command_line::words::words;
-pub use mh_orders::order::Order;
 pub use mh_program::errors::Errors;
 pub use mh_program::launch::launch;
 pub use mh_program::program::{program, serve};

@@ -1,12 +1,12 @@
 //! Words that are refused while standard error fails.
 use crate::cases::Case;
-use crate::trial::{Device, Devices, Outcome, SOUND_DEVICES};
+use crate::trial::{Devices, Outcome, SOUND_DEVICES};
 use std::alloc::Global;
 use std::io::ErrorKind;
 use std::process::Abort;
 use std::sync::Wait;
 use std::thread::Threads;
-use test_support::troubled::Trouble;
+use test_support::troubled::{Device, Trouble};
 
 const UNKNOWN: Case<'static> = Case {
     words: &[b"metroheap", b"walk"],

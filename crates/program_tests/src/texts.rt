@@ -1,6 +1,7 @@
 //! Longer texts, with each kind of event, and what is right for them while memory is refused.
 use std::alloc::{AllocError, Global};
 use std::fmt::Write;
+use test_support::graph::repeated;
 
 pub const STEPS: &[&[u8]] = &[b"metroheap", b"steps", b"--from=11", b"--to=11"];
 
@@ -216,20 +217,6 @@ pub const BAD_SEEN: &[u8] =
 pub const BAD_UNSAID: &[u8] =
     b"metroheap: an entry is bad\nmetroheap: entries 3 full 0 quanta 0 starts 0\n";
 
-/// A text, and after it another, so many times.
-pub fn repeated(
-    alloc: Global,
-    first: &[u8],
-    more: &[u8],
-    count: usize,
-) -> Result<Vec<u8>, AllocError> {
-    let mut text = Vec::from_slice(alloc, first)?;
-    for _ in 0..count {
-        text.extend_from_slice(more)?;
-    }
-    Ok(text)
-}
-
 /// Replies for several buffers, and then a dump of 64 full pages.
 pub fn crowded(alloc: Global) -> Result<Vec<u8>, AllocError> {
     let first = repeated(alloc, b"config 64 209 0 0\n", b"* stat\n", 1_800)?;
@@ -268,22 +255,4 @@ fn add_dump(output: &mut String) -> Result<(), AllocError> {
     }
     writeln!(output, "")?;
     Ok(())
-}
-
-/// An object that leads to sixty others, so that a crew has pieces to share, and a cycle that finds them.
-pub fn wide(alloc: Global) -> Result<String, AllocError> {
-    let mut script = "config 8 400 0 0\na new 0 60 0\n".to_string(alloc)?;
-    for field in 0..60u32 {
-        write!(script, "a new 1 1 0\na put 0 {field} 1\n")?;
-    }
-    script.push_str("a clear 1\n* start\n* quantum\n* quantum\n* stat\n")?;
-    Ok(script)
-}
-
-pub fn wide_output(alloc: Global) -> Result<Vec<u8>, AllocError> {
-    let mut output = repeated(alloc, b"", b"ok\n", 123)?;
-    let last =
-        b"spent 399 phase mark\nspent 239 phase idle\nfree 5 live 61 old 0 phase idle cycle 1\n";
-    output.extend_from_slice(last)?;
-    Ok(output)
 }

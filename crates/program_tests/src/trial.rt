@@ -5,15 +5,7 @@ use std::alloc::Global;
 use std::sync::Wait;
 use std::thread::Threads;
 use test_support::environment::Words;
-use test_support::troubled::{Trouble, Troubled};
-
-/// A device that gives or takes at most so many bytes at a call, of which call number `at`, counted from 1, has a trouble.
-#[derive(Clone, Copy)]
-pub struct Device {
-    pub most: usize,
-    pub at: u64,
-    pub trouble: Trouble,
-}
+use test_support::troubled::{Device, Trouble, Troubled};
 
 /// The three devices of the program.
 #[derive(Clone, Copy)]
@@ -73,7 +65,8 @@ const WRITE_FAILED: &[u8] = b"metroheap: write failed\n";
 /// Whether this was reported, or a prefix of it if standard error failed.
 fn is_told(errors: &Troubled<'_>, text: &[u8]) -> bool {
     let told = errors.taken.as_slice();
-    told == text || (errors.at > 0 && errors.at == errors.calls && text.starts_with(told))
+    told == text
+        || (errors.device.at > 0 && errors.device.at == errors.calls && text.starts_with(told))
 }
 
 /// Whether a fault was reported, and before it the lines that were refused until then.
@@ -139,15 +132,5 @@ impl Devices {
             unread: input.bytes.len(),
             written: output.taken.len(),
         }
-    }
-}
-
-impl Device {
-    fn reader<'a>(&self, alloc: Global, bytes: &'a [u8]) -> Troubled<'a> {
-        Troubled::reader(alloc, bytes, self.most, self.at, self.trouble)
-    }
-
-    fn writer(&self, alloc: Global) -> Troubled<'static> {
-        Troubled::writer(alloc, self.most, self.at, self.trouble)
     }
 }

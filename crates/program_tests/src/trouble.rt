@@ -1,11 +1,11 @@
 //! Devices that have a trouble at each of their calls in turn.
 use crate::cases::Case;
-use crate::trial::{Device, Devices, Outcome, SOUND_DEVICES};
+use crate::trial::{Devices, Outcome, SOUND_DEVICES};
 use std::alloc::Global;
 use std::process::Abort;
 use std::sync::Wait;
 use std::thread::Threads;
-use test_support::troubled::Trouble;
+use test_support::troubled::{Device, Trouble};
 
 /// A trouble of a device that gives or takes at most so many bytes at a call, and how the program ends then.
 #[derive(Clone, Copy)]

@@ -91,34 +91,6 @@ impl Tally {
     }
 }
 
-/// The hook that holds nobody, and by which a crew pays for each front.
-#[derive(Clone, Copy, Drop)]
-pub struct Eager;
-
-impl Gate for Eager {
-    fn piece(&self, _worker: usize, _piece: u64) {}
-
-    fn session(&self, _who: u8) {}
-}
-
-impl CrewGate for Eager {
-    fn scan_by_crew<R: Threads>(
-        &self,
-        rt: &R,
-        alloc: Global,
-        workers: usize,
-        asks: Asks,
-        blocks: &Blocks,
-        batch: &[Place],
-    ) -> Result<Answers, NoMemory> {
-        crew::scan(rt, alloc, workers, self, asks, blocks, batch)
-    }
-
-    fn pays(&self, _cost: u64) -> bool {
-        true
-    }
-}
-
 /// A hook that holds each session until as many as are wanted have come. If one thread does the work of two of them it
 /// is held for ever.
 #[derive(Drop)]
@@ -235,7 +207,8 @@ impl CrewGate for Hold {
 }
 
 /// A hook that sees which pieces of each batch pass, and with which workers. If a batch has more than one piece it holds
-/// each piece until as many workers as are wanted have one. A crew of fewer threads is held for ever.
+/// each piece until as many workers as are wanted have one. A crew of fewer threads is held for ever. It holds nobody if
+/// none are wanted.
 #[derive(Drop)]
 pub struct Watch {
     wanted: u32,

@@ -1,7 +1,42 @@
-//! Graphs of rows of leaves, and what is answered to scripts that build and collect them.
+//! Scripts that build graphs and collect them, and what is answered to one of them.
 
 use crate::gates::Seen;
 use std::alloc::{AllocError, Global};
+
+/// A text, and after it another, so many times.
+pub fn repeated(
+    alloc: Global,
+    first: &[u8],
+    more: &[u8],
+    count: usize,
+) -> Result<Vec<u8>, AllocError> {
+    let mut text = Vec::from_slice(alloc, first)?;
+    for _ in 0..count {
+        text.extend_from_slice(more)?;
+    }
+    Ok(text)
+}
+
+/// An object with 60 others in its fields, and a cycle of two quanta, whose batches have 1, 25 and 35 places.
+pub fn wide_script(alloc: Global) -> Result<Vec<u8>, AllocError> {
+    let mut script = Vec::from_slice(alloc, b"config 8 400 0 0\na new 0 60 0\n")?;
+    for field in 0..60_u32 {
+        let lines = format!(in alloc; "a new 1 1 0\na put 0 {field} 1\n")?;
+        script.extend_from_slice(lines.as_bytes())?;
+    }
+    script.extend_from_slice(b"a clear 1\n* start\n* quantum\n* quantum\n* stat\n")?;
+    Ok(script)
+}
+
+/// A chain of 300 objects, and a cycle of six quanta, each batch of which has one place.
+pub fn chain_script(alloc: Global) -> Result<Vec<u8>, AllocError> {
+    let first = b"config 8 209 0 0\na new 0 1 0\n";
+    let mut script = repeated(alloc, first, b"a new 1 1 0\na put 1 0 0\na copy 0 1\n", 299)?;
+    let cycle = repeated(alloc, b"a clear 1\n* start\n", b"* quantum\n", 6)?;
+    script.extend_from_slice(&cycle)?;
+    script.extend_from_slice(b"* stat\n")?;
+    Ok(script)
+}
 
 fn add_leaves(alloc: Global, script: &mut Vec<u8>, leaves: u32) -> Result<(), AllocError> {
     for leaf in 0..leaves {
@@ -62,10 +97,7 @@ pub fn cycles_script(alloc: Global) -> Result<Vec<u8>, AllocError> {
 
 /// What is answered to the script of three cycles.
 pub fn cycles_output(alloc: Global) -> Result<Vec<u8>, AllocError> {
-    let mut output = Vec::new(alloc);
-    for _ in 0..ACCEPTED {
-        output.extend_from_slice(b"ok\n")?;
-    }
+    let mut output = repeated(alloc, b"", b"ok\n", ACCEPTED)?;
     output.extend_from_slice(ANSWERS)?;
     Ok(output)
 }

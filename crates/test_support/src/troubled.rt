@@ -13,50 +13,51 @@ pub enum Trouble {
     Interruptions,
 }
 
-/// A reader and a writer of std that takes or gives at most `most` bytes at a call. Call number `at`, counted from 1, has this
-/// trouble, and no other, unless the trouble says more.
-#[derive(Drop)]
-pub struct Troubled<'a> {
-    pub bytes: &'a [u8],
-    pub taken: Vec<u8>,
+/// A device that takes or gives at most `most` bytes at a call. Call number `at`, counted from 1, has this trouble, and no
+/// other, unless the trouble says more.
+#[derive(Clone, Copy)]
+pub struct Device {
     pub most: usize,
-    pub calls: u64,
     pub at: u64,
     pub trouble: Trouble,
 }
 
-impl<'a> Troubled<'a> {
-    pub fn reader(
-        alloc: Global,
-        bytes: &'a [u8],
-        most: usize,
-        at: u64,
-        trouble: Trouble,
-    ) -> Troubled<'a> {
+/// A reader and a writer of std over a device.
+#[derive(Drop)]
+pub struct Troubled<'a> {
+    pub device: Device,
+    pub bytes: &'a [u8],
+    pub taken: Vec<u8>,
+    pub calls: u64,
+}
+
+impl Device {
+    pub fn reader<'a>(self, alloc: Global, bytes: &'a [u8]) -> Troubled<'a> {
         Troubled {
+            device: self,
             bytes,
             taken: Vec::new(alloc),
-            most,
             calls: 0,
-            at,
-            trouble,
         }
     }
 
-    pub fn writer(alloc: Global, most: usize, at: u64, trouble: Trouble) -> Troubled<'static> {
-        Troubled::reader(alloc, b"", most, at, trouble)
+    pub fn writer(self, alloc: Global) -> Troubled<'static> {
+        self.reader(alloc, b"")
     }
+}
 
+impl Troubled<'_> {
     /// Counts a call, and gives how many bytes it may take or give.
     fn room(&mut self, wanted: usize) -> io::Result<usize> {
         self.calls = self.calls.wrapping_add(1);
-        match self.trouble {
-            Trouble::Error(kind) if self.calls == self.at => Err(io::Error::from(kind)),
-            Trouble::NoByte if self.calls == self.at => Ok(0),
-            Trouble::Interruptions if self.calls % self.at.max(1) != 0 => {
+        let Device { most, at, trouble } = self.device;
+        match trouble {
+            Trouble::Error(kind) if self.calls == at => Err(io::Error::from(kind)),
+            Trouble::NoByte if self.calls == at => Ok(0),
+            Trouble::Interruptions if self.calls % at.max(1) != 0 => {
                 Err(io::Error::from(ErrorKind::Interrupted))
             }
-            _ => Ok(wanted.min(self.most)),
+            _ => Ok(wanted.min(most)),
         }
     }
 }

@@ -1,6 +1,6 @@
 -- Quanta: what they spend, what their steps cost, and that the count of steps never runs out.
-use Rattle.std.proofs.Common.{◌≡◌, ℕ, zero, suc, ◌+◌, ◌-◌, ◌<◌, ◌≤◌, ◌⊎◌, IsTrue, Bool, true, false, ◌||◌, nat_lt, inl, inr, Option, Some, None, List, [], ◌∷◌, refl, sym, ap, ◌∙◌, arith}
-use Rattle.std.proofs.lemmas.Bool.{cases_Bool, ltb-false, ltb-true, or_parts, true≢false, true_from_ne_false}
+use Rattle.std.proofs.Common.{◌≡◌, ℕ, zero, suc, ◌-◌, ◌<◌, ◌≤◌, Bool, true, false, ◌||◌, nat_lt, inl, inr, Option, Some, None, List, [], ◌∷◌, refl, sym, ap, ◌∙◌, arith}
+use Rattle.std.proofs.lemmas.Bool.{cases_Bool, ltb-false, or_parts, true≢false, true_from_ne_false}
 use Rattle.mh_model.specs.declared.config.Config.{Config}
 use Rattle.mh_model.specs.declared.cycle.Phase.{Phase}
 use Rattle.mh_model.specs.declared.cycle.Phase.TheVariants.{Idle, Roots, Mark, Sweep, Defrag}
@@ -8,7 +8,7 @@ use Rattle.mh_model.specs.Pages.{Table, page_number}
 use Rattle.mh_model.specs.Table.{Block}
 use Rattle.mh_laws.proofs.moving.NextMove.{next_move-is}
 use Rattle.mh_table_laws.specs.Tables.{IsSized}
-use Rattle.mh_model.specs.Collector.{Collector, Move, first_mark_cost, next_move, move_cost, cost_in, step_cost, is_moving, collector_step, is_idle, with_units, quantum_start, Spending, steps, quantum}
+use Rattle.mh_model.specs.Collector.{Collector, Move, first_mark_cost, next_move, move_cost, cost_in, step_cost, is_moving, collector_step, is_idle, with_units, quantum_start, steps, quantum}
 use Rattle.mh_model.specs.Limits.{least_quantum}
 
 -- steps stop, or one is taken
@@ -110,36 +110,3 @@ steps-enough (suc more) (suc more') left has_moved collector h h' = elim (cases_
       let rest = steps-enough more more' (left - step_cost collector has_moved) (has_moved || is_moving collector) (collector_step collector) (omega arith) (omega arith) in
       steps-go more left has_moved collector goes ∙ ap (with_units (step_cost collector has_moved)) rest ∙ sym (steps-go more' left has_moved collector goes)
 ]
-
--- Steps stop if no cycle runs or the next step doesn't fit, if their count is no less than what is left
-steps-go_on : (more left : ℕ) (has_moved : Bool) (collector : Collector) → left ≤ more
-    → IsTrue (is_idle (steps more left has_moved collector).collector.phase) ⊎ ((moved : Bool) × (left < (steps more left has_moved collector).units + step_cost (steps more left has_moved collector).collector moved))
-unfolding steps
-steps-go_on zero left has_moved collector enough = elim (cases_Bool (is_idle collector.phase)) [
-  | inl idle ↦ inl idle
-  | inr runs ↦ let positive = step_cost-positive collector has_moved runs in inr (has_moved, omega arith)
-]
-steps-go_on (suc more) left has_moved collector enough = elim (cases_Bool (is_idle collector.phase || nat_lt left (step_cost collector has_moved))) [
-  | inl stops ↦ rw (steps-stop more left has_moved collector stops) (stopped (is_idle collector.phase) refl stops)
-  | inr goes ↦
-      let (runs, fits) = or_parts (is_idle collector.phase) (nat_lt left (step_cost collector has_moved)) goes in
-      let positive : 0 < step_cost collector has_moved = step_cost-positive collector has_moved runs in
-      rw (steps-go more left has_moved collector goes) (more_units (ltb-false left (step_cost collector has_moved) fits) (steps-go_on more (left - step_cost collector has_moved) (has_moved || is_moving collector) (collector_step collector) (omega arith)))
-]
-  where
-    stopped : (idle : Bool) → is_idle collector.phase ≡ idle → (idle || nat_lt left (step_cost collector has_moved)) ≡ true → IsTrue (is_idle collector.phase) ⊎ ((moved : Bool) × (left < 0 + step_cost collector moved))
-    stopped true is stops = inl is
-    stopped false is stops = let dear : left < step_cost collector has_moved = ltb-true left (step_cost collector has_moved) stops in inr (has_moved, omega arith)
-
-    rest : Spending
-    rest = steps more (left - step_cost collector has_moved) (has_moved || is_moving collector) (collector_step collector)
-
-    more_units : step_cost collector has_moved ≤ left → IsTrue (is_idle rest.collector.phase) ⊎ ((moved : Bool) × (left - step_cost collector has_moved < rest.units + step_cost rest.collector moved))
-        → IsTrue (is_idle rest.collector.phase) ⊎ ((moved : Bool) × (left < step_cost collector has_moved + rest.units + step_cost rest.collector moved))
-    more_units fits (inl idle) = inl idle
-    more_units fits (inr (moved, dear)) = inr (moved, omega arith)
-
--- A quantum goes on until no cycle runs or the next step doesn't fit
-pub quantum-goes_on : (config : Config) (collector : Collector) → IsTrue (is_idle (quantum config collector).collector.phase) ⊎ ((moved : Bool) × (config.quantum < (quantum config collector).units + step_cost (quantum config collector).collector moved))
-unfolding quantum
-quantum-goes_on config collector = steps-go_on config.quantum config.quantum false (quantum_start config collector) (omega arith)

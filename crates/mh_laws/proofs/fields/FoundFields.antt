@@ -9,7 +9,7 @@ use Rattle.mh_model.specs.Table.{Block, reference_at, LeadsOn, references_at, nu
 use Rattle.mh_model.specs.Collector.{Collector}
 use Rattle.mh_model.specs.View.{field_blocks}
 use Rattle.mh_model.specs.Invariant.{IsPlainAt, LeadsToObject, IsSound, IsObjectAt, HasChild, IsFindable, HasField}
-use Rattle.mh_laws.specs.Fields.{LeadsThere, SlotsHoldObjects, FieldsAreFound, ReferencesLeadOn, CommandsWriteWhatTheyMay}
+use Rattle.mh_laws.specs.Fields.{LeadsThere, SlotsHoldObjects, FieldsAreFound, ReferencesLeadOn}
 use Rattle.mh_table_laws.proofs.Lists.{below_length}
 use Rattle.mh_table_laws.proofs.marking.BatchMarking.{there_before}
 use Rattle.mh_laws.proofs.marking.BlockChanges.{resolve-live}
@@ -17,8 +17,7 @@ use Rattle.mh_laws.proofs.marking.MarkSteps.{leads}
 use Rattle.mh_table_laws.proofs.objects.Headers.{flat_of}
 use Rattle.mh_table_laws.proofs.objects.JoinedFields.{IsRun, AreRuns, child_place-is, own_count, a_middle, an_arraylet, are_runs, laid, has_fields}
 use Rattle.mh_table_laws.proofs.objects.Parts.{counts}
-use Rattle.mh_laws.proofs.snapshots.Barriers.{root_writable}
-use Rattle.mh_laws.proofs.snapshots.SessionCommands.{held_by, field_held, loaded_writable}
+use Rattle.mh_laws.proofs.snapshots.SessionCommands.{held_by}
 
 leads_there : (c : Collector) (o : Option ℕ) → ((reference : ℕ) → o ≡ Some reference → (x : Block) × IsPlainAt c (resolve c.table reference) x) → LeadsThere c o
 leads_there c None led = record { on = tt; home = tt }
@@ -149,10 +148,3 @@ references-lead = record {
     loaded n c h place shape o field below target (Some r) at e =
         let (x, plain, first) = leads-to n c h place shape o field below r at in
         (x.header, record { block = x; plain = subst (λ q. IsPlainAt c q x) (same_Some (resolve c.table r) target e) plain; first = first; header = refl })
-
-pub commands-write : CommandsWriteWhatTheyMay
-commands-write = record {
-  slots = λ snapshot heap keeps slot. (root_writable snapshot heap.next_birth heap.collector slot keeps).leads;
-  fields = λ snapshot heap keeps slot field shape e below. let f = field_held snapshot heap keeps slot field shape e below in (f.block, f.has, f.kept);
-  loaded = λ snapshot heap keeps slot field shape e below. (loaded_writable snapshot heap keeps _ (field_held snapshot heap keeps slot field shape e below)).leads;
-}

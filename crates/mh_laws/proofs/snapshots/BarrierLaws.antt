@@ -4,23 +4,17 @@ use Rattle.std.proofs.lemmas.Option.{same_Some}
 use Rattle.mh_model.specs.declared.shape.Shape.{Shape}
 use Rattle.mh_model.specs.Collector.{Collector}
 use Rattle.mh_model.specs.Invariant.{IsPlainAt}
-use Rattle.mh_laws.specs.Barriers.{BarriersKeepTheSnapshot, RootsWrittenKeepTheSnapshot, ReferencesWrittenKeepTheSnapshot, NumbersWrittenKeepTheSnapshot, ObjectsMadeKeepTheSnapshot}
+use Rattle.mh_laws.specs.Barriers.{BarriersKeepTheSnapshot, RootsWrittenKeepTheSnapshot, ObjectsMadeKeepTheSnapshot}
 use Rattle.mh_laws.proofs.marking.MarkSteps.{guarded}
 use Rattle.mh_laws.proofs.objects.NewbornBlocks.{made_group-born}
 use Rattle.mh_laws.proofs.snapshots.NewObjects.{snapshot-borne, newborn_root, borne}
-use Rattle.mh_laws.proofs.snapshots.Barriers.{snapshot-with_root, snapshot-with_reference_stored, snapshot-with_number_stored}
+use Rattle.mh_laws.proofs.snapshots.Barriers.{snapshot-with_root}
 
 pub barriers-keep : BarriersKeepTheSnapshot
 barriers-keep snapshot n c reference marks kept h = (guarded snapshot n c reference marks kept h).keeps
 
 pub roots-keep : RootsWrittenKeepTheSnapshot
 roots-keep snapshot n c slot reference may h = snapshot-with_root snapshot n c slot reference (record { leads = may }) h
-
-pub references-keep : ReferencesWrittenKeepTheSnapshot
-references-keep snapshot n c position reference (block, has, kept) may h = snapshot-with_reference_stored snapshot n c position reference (record { block = block; has = has; kept = kept }) (record { leads = may }) h
-
-pub numbers-keep : NumbersWrittenKeepTheSnapshot
-numbers-keep snapshot n c position number block there live h = snapshot-with_number_stored snapshot n c position number block there live h
 
 pub objects-keep : ObjectsMadeKeepTheSnapshot
 objects-keep snapshot n c references numbers made is h =

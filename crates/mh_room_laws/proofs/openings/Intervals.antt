@@ -1,8 +1,7 @@
 -- Between two quanta: what events open is no more than their parts fill by class.
 -- An *interval* is the events between two quanta; the event that has the second one run is its last.
-use Rattle.std.proofs.Common.{◌≡◌, inl, inr, ℕ, suc, ◌+◌, ◌≤◌, nat_le, nat_lt, Bool, true, false, if◌then◌else◌, Option, Some, None, option_map, option_and_then, unwrap_or, List, [], ◌∷◌, ◌++◌, get_or, cond, refl, sym, ap, ◌∙◌, subst, arith}
+use Rattle.std.proofs.Common.{◌≡◌, ℕ, ◌+◌, ◌≤◌, nat_le, nat_lt, Bool, true, false, if◌then◌else◌, Option, Some, None, option_map, option_and_then, unwrap_or, List, [], ◌∷◌, ◌++◌, get_or, cond, refl, sym, ap, ◌∙◌, subst, arith}
 use Rattle.std.specs.List.{flat_map}
-use Rattle.std.proofs.lemmas.Bool.{cases_Bool}
 use Rattle.std.proofs.lemmas.Option.{none-some, same_Some}
 use Rattle.std.proofs.lemmas.List.Sums.{sum_by-append}
 use Rattle.std.proofs.lemmas.List.Concat.{flat_map-cons}
@@ -16,21 +15,19 @@ use Rattle.mh_model.specs.declared.reply.Refusal.{Refusal}
 use Rattle.mh_model.specs.declared.reply.Refusal.TheVariants.{BadSlot, TooLarge, HeapFull, Ended, TooManySessions}
 use Rattle.mh_model.specs.World.{Sight, own_slot, first_refusal, is_bad, refusal, unless_refused}
 use Rattle.mh_model.specs.Classes.{Part, class_sizes, parts}
-use Rattle.mh_model.specs.Pages.{Table, free_pages, HaveTheirSlots}
+use Rattle.mh_model.specs.Pages.{Table, HaveTheirSlots}
 use Rattle.mh_model.specs.Table.{Block, Made, MadeParts, made_parts, linked_parts, group_of, made_group}
 use Rattle.mh_model.specs.Collector.{Collector}
 use Rattle.mh_model.specs.Mutator.{HeapState, new_group, with_born, heap_sight, heap_effect, mutator_step}
-use Rattle.mh_model.specs.Machine.{Machine, first_machine, quantum_run, command_step, half_step, event_step, machine_after}
-use Rattle.mh_model.specs.Snapshot.{has_quantum}
+use Rattle.mh_model.specs.Machine.{Machine, first_machine, command_step, half_step, machine_after}
 use Rattle.mh_laws.proofs.bounds.CyclesInTime.{run-stays}
 use Rattle.mh_laws.proofs.commands.LeftUnchanged.{mutator_step-course, machine_after-pages}
-use Rattle.mh_laws.proofs.runs.EveryMoment.{config-mutator_step, machine_after-keeps}
-use Rattle.mh_model.specs.Openings.{is_of_class, class_parts, asked_parts, opens_at_most, free_of}
-use Rattle.mh_room_laws.specs.Openings.{ObjectsOpenFewPages, IntervalsOpenFewPages}
+use Rattle.mh_laws.proofs.runs.EveryMoment.{config-mutator_step}
+use Rattle.mh_model.specs.Openings.{is_of_class, class_parts, asked_parts}
 use Rattle.mh_laws.proofs.rooms.Rooms.{HasSameRoom}
-use Rattle.mh_room_laws.proofs.openings.MadeParts.{IsOpened, opened-none, opened-more, made_parts-opened, opened-few}
+use Rattle.mh_room_laws.proofs.openings.MadeParts.{IsOpened, opened-none, opened-more, made_parts-opened}
 use Rattle.mh_laws.proofs.rooms.KeptRoom.{linked_parts-room, with_root-room, heap_effect-room}
-use Rattle.mh_laws.proofs.rooms.QuietEvents.{IsLikewise, quiet-event, quantum-event}
+use Rattle.mh_laws.proofs.rooms.QuietEvents.{IsLikewise}
 
 -- Objects ----------------------------------------------------------------------------------------
 
@@ -101,12 +98,6 @@ module _ (asked : ℕ → ℕ) (start : Table Block) where
       go None e = effect-opened heap who c slots e is
       go (Some refused) e = opened-more class_sizes asked (with_asked heap who c) start heap.collector.table (λ k. omega arith) is
 
--- An object that is made opens few pages
-pub objects-few : ObjectsOpenFewPages
-objects-few table birth stamp list made slots e =
-    let is = made_group-opened (λ k. 0) table table birth stamp list made slots e (opened-none class_sizes (λ k. 0) table) in
-    opened-few (λ k. class_parts k list) table made.table (opened-more class_sizes (λ k. 0 + class_parts k list) (λ k. class_parts k list) table made.table (λ k. omega arith) is)
-
 -- Events -----------------------------------------------------------------------------------------
 
 -- the parts of each class that a list of events asks for
@@ -161,66 +152,10 @@ module _ (count : ℕ) where
   unfolding command_step
   command-counts machine who command has = has
 
-  quantum-counts : (machine : Machine) → count ≤ machine.trace.quanta → count ≤ (quantum_run machine).state.trace.quanta
-  unfolding quantum_run
-  quantum-counts machine has = omega (arith, has)
-
-  events-count : (events : List Event) (machine : Machine) → count ≤ machine.trace.quanta → count ≤ (machine_after machine events).trace.quanta
-  events-count events machine has = machine_after-keeps (λ m. count ≤ m.trace.quanta) command-counts quantum-counts (λ m h. h) events machine has
-
-pub half-count : (machine : Machine) (event : Event) → (half_step machine event).trace.quanta ≡ machine.trace.quanta
-unfolding command_step
-half-count machine (event.Session who command) = refl
-half-count machine (event.Control control) = refl
-
-run-count : (machine : Machine) → (quantum_run machine).state.trace.quanta ≡ suc machine.trace.quanta
-unfolding quantum_run
-run-count machine = omega arith
-
--- an event that leaves the count of quanta runs none
-pub event-quiet : (machine : Machine) (event : Event) (events : List Event) → (machine_after (event_step machine event).state events).trace.quanta ≡ machine.trace.quanta → has_quantum machine event ≡ false
-event-quiet machine event events same = elim (cases_Bool (has_quantum machine event)) [
-  | inl runs ↦
-      let next : Machine = (event_step machine event).state in
-      let more : next.trace.quanta ≡ suc (machine.trace.quanta) = ap (λ (m : Machine). m.trace.quanta) (quantum-event machine event runs) ∙ run-count (half_step machine event) ∙ ap suc (half-count machine event) in
-      absurd (omega (arith, more, same, events-count next.trace.quanta events next (omega arith)))
-  | inr quiet ↦ quiet
-]
-
--- Events that run no quantum open pages by the parts that they ask for
-pub since-events : (config : Config) (start : Table Block) (events : List Event) (asked : ℕ → ℕ) (machine : Machine) → IsSince config asked start machine → (machine_after machine events).trace.quanta ≡ machine.trace.quanta
-    → IsSince config (λ k. asked k + asked_of config events k) start (machine_after machine events)
-unfolding machine_after
-since-events config start [] asked machine since same = since-more config asked (λ k. asked k + asked_of config [] k) start machine (λ k. omega arith) since
-since-events config start (event ∷ events) asked machine since same =
-    let next : Machine = (event_step machine event).state in
-    let quiet : IsLikewise (half_step machine event) next = quiet-event machine event (event-quiet machine event events same) in
-    let more : ℕ → ℕ = λ k. asked k + class_parts k (asked_parts config event) in
-    let after = since-events config start events more next (since-likewise config more start (half_step machine event) next quiet (since-half config asked start machine event since)) (same ∙ sym (quiet.count ∙ half-count machine event)) in
-    since-more config (λ k. more k + asked_of config events k) (λ k. asked k + asked_of config (event ∷ events) k) start (machine_after next events) (λ k. omega (arith, asked-cons config event events k)) after
-
 -- a machine is so since its own moment
 pub since-first : (config : Config) (events : List Event) → IsSince config (λ k. 0) (machine_after (first_machine config) events).heap.collector.table (machine_after (first_machine config) events)
 since-first config events = record {
   config_is = (run-stays config events).config_is;
   slots = (machine_after-pages config events).slots;
   opened = opened-none class_sizes (λ k. 0) (machine_after (first_machine config) events).heap.collector.table;
-}
-
-since-few : (config : Config) (events : List Event) (start : Table Block) (machine : Machine) → IsSince config (λ k. 0 + asked_of config events k) start machine → free_pages start ≤ free_of machine + opens_at_most config events
-since-few config events start machine since =
-    opened-few (asked_of config events) start machine.heap.collector.table (opened-more class_sizes (λ k. 0 + asked_of config events k) (asked_of config events) start machine.heap.collector.table (λ k. omega arith) since.opened)
-
--- Between two quanta few pages are opened
-pub intervals-few : IntervalsOpenFewPages
-intervals-few = record {
-  after_events = λ config events more same. since-few config more _ (machine_after (machine_after (first_machine config) events) more) (since-events config _ more (λ k. 0) (machine_after (first_machine config) events) (since-first config events) same);
-  after_commands = λ config events more event same.
-      let machine : Machine = machine_after (first_machine config) events in
-      let start : Table Block = machine.heap.collector.table in
-      let later : Machine = machine_after machine more in
-      let since = since-half config (λ k. 0 + asked_of config more k) start later event (since-events config start more (λ k. 0) machine (since-first config events) same) in
-      since-few config (more ++ event ∷ []) start (half_step later event)
-      (since-more config (λ k. 0 + asked_of config more k + class_parts k (asked_parts config event)) (λ k. 0 + asked_of config (more ++ event ∷ []) k) start (half_step later event)
-      (λ k. omega (arith, asked-append config more (event ∷ []) k, asked-cons config event [] k)) since);
 }

@@ -1,9 +1,7 @@
 -- What deeds change of a picture, the pictures of runs, and their dumps.
 use Rattle.std.proofs.Common.{[], Bool, false, List, None, option_map, Option, refl, Some, true, ℕ, ◌∷◌, ◌≡◌}
 use Rattle.mh_model.specs.declared.command.Command.TheVariants.{Clear, New, Put}
-use Rattle.mh_model.specs.declared.command.Control.TheVariants as control
 use Rattle.mh_model.specs.declared.command.Event.{Event}
-use Rattle.mh_model.specs.declared.command.Event.TheVariants as event
 use Rattle.mh_model.specs.declared.config.Config.{Config}
 use Rattle.mh_model.specs.declared.cycle.Phase.TheVariants.{Idle, Roots, Mark}
 use Rattle.mh_model.specs.declared.deed.Deed.TheVariants as deed
@@ -14,17 +12,16 @@ use Rattle.mh_model.specs.declared.deed.Tier.TheVariants as tier
 use Rattle.mh_model.specs.declared.dump.DumpItem.TheVariants as item
 use Rattle.mh_model.specs.Configs.{configured}
 use Rattle.mh_model.specs.Pages.{Page}
-use Rattle.mh_model.specs.Collector.{step_cost, collector_step, steps, quantum}
-use Rattle.mh_model.specs.Mutator.{heap_effect, mutator_step}
-use Rattle.mh_model.specs.Machine.{first_machine, quantum_run, command_step, control_step, event_step}
+use Rattle.mh_model.specs.Machine.{first_machine}
 use Rattle.mh_model.specs.Deeds.{step_deeds, deeds_of_steps, quantum_deeds, command_deeds, account_of}
 use Rattle.mh_table_laws.specs.TableMaps.{table_map}
 use Rattle.mh_picture_laws.specs.Picture.{Drawn, Picture, drawn_of, empty_picture, drawn, drawn_all, accounts_of, drawn_run, pictured_dump}
+use Rattle.mh_rows.proofs.rows.Worked.{a, quantum_asked, session, start, worked}
 
 -- a row that unfolds this name computes
-unfoldable worked : ℕ
-unfolding step_cost collector_step steps quantum heap_effect mutator_step quantum_run command_step control_step event_step step_deeds deeds_of_steps quantum_deeds command_deeds account_of accounts_of table_map
-worked = 0
+unfoldable accounted : ℕ
+unfolding worked step_deeds deeds_of_steps quantum_deeds command_deeds account_of accounts_of table_map
+accounted = 0
 
 abbrev name : ℕ → PartName
 name birth = record { birth = birth; part = 0 }
@@ -107,32 +104,32 @@ drawn_under pages units trigger every events = option_map (λ (config : Config).
 
 -- after the first grey block of a cycle what it led to is grey
 -- refuses: a cycle that starts keeps its number; a phase that is entered isn't drawn
-pub grey_in_a_run : drawn_under 2 290 0 0 (event.Session 0 (New 0 1 59) ∷ event.Session 0 (New 1 0 60) ∷ event.Session 0 (Put 0 0 1) ∷ event.Session 0 (Clear 1) ∷ event.Control control.Start ∷ event.Control control.Quantum ∷ [])
+pub grey_in_a_run : drawn_under 2 290 0 0 (a (New 0 1 59) ∷ a (New 1 0 60) ∷ a (Put 0 0 1) ∷ a (Clear 1) ∷ start ∷ quantum_asked ∷ [])
     ≡ Some (record {
       table = page false (Some (record { name = name 0; fields = record { references = 1; numbers = 59 }; stamp = 1; forward = None })) (block 1 1 None) ∷ None ∷ [];
       grey = 1 ∷ [];
       cycle = 1;
       phase = Mark;
     })
-unfolding worked
+unfolding accounted
 grey_in_a_run = refl
 
 -- a new object is placed, and then the old target of its slot is shaded
 -- refuses: a barrier shades nothing; a shaded block keeps its stamp
-pub shaded_by_a_barrier : drawn_under 1 209 0 0 (event.Session 7 (New 0 0 60) ∷ event.Control control.Start ∷ event.Control control.Quantum ∷ event.Session 7 (New 0 0 60) ∷ [])
+pub shaded_by_a_barrier : drawn_under 1 209 0 0 (session 7 (New 0 0 60) ∷ start ∷ quantum_asked ∷ session 7 (New 0 0 60) ∷ [])
     ≡ Some (record { table = page false (block 0 1 None) (block 1 1 None) ∷ []; grey = 0 ∷ []; cycle = 1; phase = Roots })
-unfolding worked
+unfolding accounted
 shaded_by_a_barrier = refl
 
 -- what a command placed is drawn before the quantum that it made due
 -- refuses: quanta are drawn before commands
-pub command_before_its_quantum : drawn_under 1 209 0 1 (event.Session 7 (New 0 0 60) ∷ []) ≡ Some (record { table = page false (block 0 0 None) None ∷ []; grey = []; cycle = 1; phase = Roots })
-unfolding worked
+pub command_before_its_quantum : drawn_under 1 209 0 1 (session 7 (New 0 0 60) ∷ []) ≡ Some (record { table = page false (block 0 0 None) None ∷ []; grey = []; cycle = 1; phase = Roots })
+unfolding accounted
 command_before_its_quantum = refl
 
 -- the dump of a picture with a moved block
 -- refuses: a forwarder is dumped as a block; a kept block is taken away
-pub dumped_from_a_run : option_map pictured_dump (drawn_under 4 1000 0 0 (event.Session 0 (New 0 0 60) ∷ event.Session 0 (New 1 0 60) ∷ event.Session 0 (New 2 0 60) ∷ event.Session 0 (New 3 0 60) ∷ event.Session 0 (New 4 0 60) ∷ event.Session 0 (Clear 1) ∷ event.Control control.Start ∷ event.Control control.Quantum ∷ []))
+pub dumped_from_a_run : option_map pictured_dump (drawn_under 4 1000 0 0 (a (New 0 0 60) ∷ a (New 1 0 60) ∷ a (New 2 0 60) ∷ a (New 3 0 60) ∷ a (New 4 0 60) ∷ a (Clear 1) ∷ start ∷ quantum_asked ∷ []))
     ≡ Some (item.Page 0 64 false ∷ item.Block 0 0 0 ∷ item.Block 1 4 0 ∷ item.Block 2 2 0 ∷ item.Block 3 3 0 ∷ item.Page 1 64 true ∷ item.Forwarder 0 0 1 ∷ [])
-unfolding worked
+unfolding accounted
 dumped_from_a_run = refl

@@ -40,6 +40,6 @@ room_for_nodes = record { pages = 83; quantum = 5000; trigger = 7; every = 5000;
 pub a_heap_with_room : HasRoomAtRate nodes 1 2 75 room_for_nodes
 a_heap_with_room = record { scheduled = lit≤ tt; pages = lit≤ tt; trigger = lit≤ tt }
 
--- and not if they take three
+-- those pages have no room if cycles take three quanta
 pub no_room_for_three : HasRoomAtRate nodes 1 3 75 room_for_nodes → ⊥
 no_room_for_three has = absurd (omega (arith, has.pages))

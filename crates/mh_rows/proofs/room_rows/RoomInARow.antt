@@ -1,12 +1,11 @@
 -- A run that has room, and the same in a page less: what its intervals open together would fit there, and what each opens by itself doesn't.
-use Rattle.std.proofs.Common.{◌≡◌, ℕ, Bool, true, false, List, [], ◌∷◌, ◌++◌, map, refl, lit≤}
+use Rattle.std.proofs.Common.{◌≡◌, ℕ, List, [], ◌∷◌, ◌++◌, map, refl, lit≤}
 use Rattle.std.specs.List.{flat_map}
 use Rattle.mh_model.specs.declared.command.Command.TheVariants.{New}
 use Rattle.mh_model.specs.declared.command.Event.{Event}
 use Rattle.mh_model.specs.declared.config.Config.{Config}
 use Rattle.mh_model.specs.declared.config.Rules.TheVariants.{Second}
-use Rattle.mh_model.specs.Machine.{first_machine, machine_replies}
-use Rattle.mh_model.specs.Snapshot.{is_heap_full}
+use Rattle.mh_model.specs.Machine.{first_machine}
 use Rattle.mh_model.specs.Openings.{opens_at_most, free_of}
 use Rattle.mh_model.specs.Intervals.{cycle_ends, CyclesTakeAtMost}
 use Rattle.mh_room_laws.specs.Room.{first_start, later_intervals, opened_in_a_row, HasRoomInARow}
@@ -30,18 +29,11 @@ four_pages = record { pages = 4; quantum = 303; trigger = 2; every = 0; rules = 
 abbrev counts : Config → List ℕ
 counts config = opened_in_a_row 2 config script ∷ opened_in_a_row 1 config script ∷ (map free_of (first_start (first_machine config) script) ++ map free_of (cycle_ends (first_machine config) script))
 
-abbrev fulls : Config → List Bool
-fulls config = map is_heap_full (machine_replies (first_machine config) script)
-
 -- two intervals open three pages, two are free, and the last block finds none
 -- refuses: blocks of a class counted together for all intervals in a row
 pub three_are_opened_and_two_free : counts three_pages ≡ 3 ∷ 2 ∷ 2 ∷ 2 ∷ []
 unfolding worked
 three_are_opened_and_two_free = refl
-
-pub the_last_is_full : fulls three_pages ≡ false ∷ false ∷ false ∷ false ∷ false ∷ false ∷ false ∷ false ∷ false ∷ false ∷ true ∷ []
-unfolding worked
-the_last_is_full = refl
 
 -- together they would open two
 pub together_two : opens_at_most three_pages (flat_map (λ interval. interval) (later_intervals (first_machine three_pages) script)) ≡ 2
@@ -56,7 +48,3 @@ a_page_more_has_room = record { before = (refl, (refl, (refl, (refl, (refl, (ref
 pub cycles_take_two : CyclesTakeAtMost 2 four_pages script
 unfolding worked
 cycles_take_two = (λ runs. lit≤ tt, (λ runs. lit≤ tt, (λ runs. lit≤ tt, (λ runs. lit≤ tt, (λ runs. lit≤ tt, (λ runs. lit≤ tt, (λ runs. lit≤ tt, (λ runs. lit≤ tt, (λ runs. lit≤ tt, (λ runs. lit≤ tt, (λ runs. lit≤ tt, (λ runs. lit≤ tt, tt))))))))))))
-
-pub none_is_full : fulls four_pages ≡ false ∷ false ∷ false ∷ false ∷ false ∷ false ∷ false ∷ false ∷ false ∷ false ∷ false ∷ []
-unfolding worked
-none_is_full = refl

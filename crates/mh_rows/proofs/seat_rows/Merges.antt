@@ -52,12 +52,12 @@ no_second entry (suc seat) rest e next last f = cc
 pub entry_left_out : ¬ IsMerge (one_log (0 ∷ [])) []
 entry_left_out merge = let bad : get_or (one_log (0 ∷ [])) 0 [] ≡ [] = merge 0 in cc
 
--- none is there twice
+-- no entry is there twice
 -- refuses: an entry stays in its log; an entry needs no log
 pub entry_twice : ¬ IsMerge (one_log (0 ∷ [])) (0 ∷ 0 ∷ [])
 entry_twice merge = no_second 0 merge.0.seat merge.0.rest merge.0.log merge.1.0.seat merge.1.0.rest merge.1.0.log
 
--- and none that no log has
+-- no entry is there that no log has
 -- refuses: an entry stays in its log; an entry needs no log
 pub entry_of_no_log : ¬ IsMerge (one_log (0 ∷ [])) (0 ∷ 5 ∷ [])
 entry_of_no_log merge = no_second 5 merge.0.seat merge.0.rest merge.0.log merge.1.0.seat merge.1.0.rest merge.1.0.log

@@ -244,20 +244,3 @@ module _ (view world : World) (agrees : Agrees view world) where
       go : (refused : Option Refusal) → (unless_refused refused view (effect view who command)).reply ≡ (unless_refused refused world (effect world who command)).reply
       go None = effect-reply who command
       go (Some refused) = refl
-
--- Agreement is transitive, so a heap may be collected between two commands
-pub Agrees-trans : (first second third : World) → Agrees first second → Agrees second third → Agrees first third
-Agrees-trans first second third one two = record {
-  config = one.config ∙ two.config;
-  next_birth = one.next_birth ∙ two.next_birth;
-  slots = one.slots ∙ two.slots;
-  ended = one.ended ∙ two.ended;
-  objects = λ birth object e. two.objects birth object (one.objects birth object e);
-  reached = λ birth path. one.reached birth (Reachable-in third (λ b. Reachable second b × Reachable third b) (λ slot b e. (([], (slot, slot_at-same second third two slot ∙ e)), ([], (slot, e)))) along path.0 birth path.1).0;
-}
-  where
-    along : (near target : ℕ) → Reachable second near × Reachable third near → Refers third near target → Reachable second target × Reachable third target
-    along near target before (field, e) =
-        let in_second = before.0 in
-        let in_third = before.1 in
-        ((near ∷ in_second.0, ((field, ap (λ o. reference_of o field) (object_at-reached second third two near in_third) ∙ e), in_second.1)), (near ∷ in_third.0, ((field, e), in_third.1)))

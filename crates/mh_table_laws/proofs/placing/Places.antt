@@ -1,22 +1,14 @@
 -- Places: reading a table after a write, what the search for a place finds, and a place taken and given back.
-use Rattle.std.proofs.Common.{◌≡◌, ◌≢◌, ℕ, zero, suc, ◌+◌, ◌/◌, ◌%◌, ◌<◌, ◌≤◌, ◌==◌, Bool, true, false, not, if◌then◌else◌, inl, inr, List, [], ◌∷◌, length, get_or, set, Option, Some, None, is_some, is_none, option_map, option_and_then, IsSome, refl, sym, ap, ◌∙◌, subst, arith, eq-eqb}
+use Rattle.std.proofs.Common.{◌≡◌, ◌≢◌, ℕ, zero, suc, ◌+◌, ◌/◌, ◌%◌, ◌<◌, ◌≤◌, ◌==◌, Bool, true, false, not, if◌then◌else◌, inl, inr, List, [], ◌∷◌, length, get_or, set, Option, Some, None, is_some, is_none, option_map, option_and_then, IsSome, refl, sym, ap, ◌∙◌, subst, arith}
 use Rattle.std.specs.Option.{option_or}
 use Rattle.std.proofs.lemmas.Bool.{cases_eq, false≢true, and_parts, not-true, eqb-true}
 use Rattle.std.proofs.lemmas.Option.{none-some, same_Some}
 use Rattle.std.proofs.lemmas.List.{get_or-set_same, get_or-set_other, set-get_or, set-set, length-replicate}
 use Rattle.mh_model.specs.Classes.{slots_in}
 use Rattle.mh_model.specs.Pages.{Page, Table, page_number, slot_number, page_at, block_in, block_at, block_count, is_dense, is_sparse, empty_slot, open_slot, fresh_slot, first_place, least, least_dense_place, least_place, page_with, with_block, page_for, with_taken, with_released, HaveTheirSlots, IsFreeFor}
-use Rattle.mh_table_laws.specs.Placing.{IsFirstEmpty, IsFound, GivesNone, HasRoom, IsLeastOfItsTier, IsDensePlace}
+use Rattle.mh_table_laws.specs.Placing.{IsFirstEmpty, IsFound, GivesNone, IsLeastOfItsTier}
 use Rattle.mh_table_laws.proofs.Lists.{from_some, below_length, set_back, none_at}
 use Rattle.mh_table_laws.proofs.tables.PageSlots.{slots_in-class_size}
-
-option_or-left : (a b : Option ℕ) → IsSome a → IsSome (option_or a b)
-option_or-left (Some x) b h = refl
-option_or-left None b h = absurd (false≢true h)
-
-option_or-right : (a b : Option ℕ) → IsSome b → IsSome (option_or a b)
-option_or-right None b h = h
-option_or-right (Some x) b h = refl
 
 module _ {X : Type 0} where
   -- Reading and writing --------------------------------------------------------------------------
@@ -162,16 +154,6 @@ module _ {X : Type 0} where
           let k = ih after refl in
           subst (IsFirstEmpty (Some block ∷ slots)) (same_Some (suc after) slot h) (record { within = omega (arith, k.within); empty = k.empty; first = first_after after k })
 
-  pub empty_slot-some : (slots : List (Option X)) (slot : ℕ) → slot < length slots → get_or slots slot None ≡ None → IsSome (empty_slot slots)
-  empty_slot-some [] slot h e = absurd (omega arith)
-  empty_slot-some (None ∷ slots) slot h e = refl
-  empty_slot-some (Some block ∷ slots) zero h e = absurd (none-some block (sym e))
-  empty_slot-some (Some block ∷ slots) (suc slot) h e = mapped (empty_slot slots) (empty_slot-some slots slot (omega arith) e)
-    where
-      mapped : (o : Option ℕ) → IsSome o → IsSome (option_map suc o)
-      mapped None i = i
-      mapped (Some a) i = refl
-
   -- an open slot is the first without a block, of a page in use that passes the test
   pub record IsOpen (test : Page X → Bool) (content : Option (Page X)) (slot : ℕ) : Type 0 where
     pub page : Page X
@@ -213,11 +195,6 @@ module _ {X : Type 0} where
       let (of_class, unflagged) = and_parts (there.page.class_size == size) (not there.page.is_flagged) there.passes in
       (there.page, there.in_use, eqb-true there.page.class_size size of_class, not-true there.page.is_flagged unflagged, there.empty)
 
-  pub least_dense_place-dense : (table : Table X) (size place : ℕ) → IsShaped table → least_dense_place table size ≡ Some place → IsDensePlace table size place
-  least_dense_place-dense table size place shaped e =
-      let (page, in_use, of_class, unflagged, empty) = least_dense_place-page table size shaped place e in
-      record { found = least_dense_place-is table size shaped place e; page = page; in_use = in_use; of_class = of_class; unflagged = unflagged; empty = empty }
-
   -- All tiers ------------------------------------------------------------------------------------
 
   open-free : (test : Page X → Bool) (table : Table X) (size : ℕ) → ((page : Page X) → test page ≡ true → page.class_size ≡ size) → IsShaped table → (place : ℕ) → least (open_slot test) table ≡ Some place → IsFreeFor table size place
@@ -257,42 +234,6 @@ module _ {X : Type 0} where
       go (Some q) is fresh is' h = open-free (is_dense size) table size (dense-class size) shaped place (is ∙ h)
       go None is (Some q) is' h = fresh-free table size some_slot place (is' ∙ h)
       go None is None is' h = open-free (is_sparse size) table size (sparse-class size) shaped place h
-
-  -- A place is found if there is a free page
-  pub least_place-free_page : (table : Table X) (size number : ℕ) → number < length table → page_at table number ≡ None → IsSome (least_place table size)
-  least_place-free_page table size number inside free =
-      option_or-right (least_dense_place table size) _ (option_or-left (least fresh_slot table) _ (least-some fresh_slot table number inside (ap (λ p. is_some (fresh_slot p)) free)))
-
-  open-some : (test : Page X → Bool) (table : Table X) (number slot : ℕ) (page : Page X) → page_at table number ≡ Some page → test page ≡ true → slot < length page.slots → get_or page.slots slot None ≡ None → IsSome (least (open_slot test) table)
-  open-some test table number slot page at passes within empty =
-      least-some (open_slot test) table number (below_length table number page at) (ap (λ p. is_some (open_slot test p)) at ∙ ap (λ b. is_some (if b then empty_slot page.slots else None)) passes ∙ empty_slot-some page.slots slot within empty)
-
-  -- and if a page of the class has a slot without a block
-  pub least_place-open_slot : (table : Table X) (size number slot : ℕ) (page : Page X) → page_at table number ≡ Some page → page.class_size ≡ size → slot < length page.slots → get_or page.slots slot None ≡ None → IsSome (least_place table size)
-  least_place-open_slot table size number slot page at of_class within empty = by_flag page.is_flagged refl
-    where
-      by_flag : (flag : Bool) → page.is_flagged ≡ flag → IsSome (least_place table size)
-      by_flag false e =
-          let passes : is_dense size page ≡ true = rw (e, eq-eqb page.class_size size of_class) refl in
-          option_or-left (least_dense_place table size) _ (open-some (is_dense size) table number slot page at passes within empty)
-      by_flag true e =
-          let passes : is_sparse size page ≡ true = rw (e, eq-eqb page.class_size size of_class) refl in
-          option_or-right (least_dense_place table size) _ (option_or-right (least fresh_slot table) _ (open-some (is_sparse size) table number slot page at passes within empty))
-
-  -- A place is found for a class exactly when it has room
-  pub least_place-has_room : (table : Table X) (size : ℕ) → HasRoom table size → IsSome (least_place table size)
-  least_place-has_room table size (inl (number, inside, free)) = least_place-free_page table size number inside free
-  least_place-has_room table size (inr (number, slot, page, at, of_class, within, empty)) = least_place-open_slot table size number slot page at of_class within empty
-
-  free-has_room : (table : Table X) (size place : ℕ) → IsFreeFor table size place → HasRoom table size
-  free-has_room table size place free = go (page_at table (page_number place)) refl free.of_class free.within
-    where
-      go : (content : Option (Page X)) → page_at table (page_number place) ≡ content → (page_for size content).class_size ≡ size → slot_number place < length (page_for size content).slots → HasRoom table size
-      go None at of_class within = inl (page_number place, free.inside, at)
-      go (Some page) at of_class within = inr (page_number place, slot_number place, page, at, of_class, within, sym (ap (option_and_then (block_in (slot_number place))) at) ∙ free.empty)
-
-  pub has_room-least_place : (table : Table X) (size : ℕ) → IsShaped table → 0 < slots_in size → IsSome (least_place table size) → HasRoom table size
-  has_room-least_place table size shaped some_slot found = let (place, is) = from_some (least_place table size) found in free-has_room table size place (least_place-free table size shaped some_slot place is)
 
   -- The least place is the least of the first tier that gives one
   pub least_place-least : (table : Table X) (size : ℕ) → IsShaped table → (place : ℕ) → least_place table size ≡ Some place → IsLeastOfItsTier table size place

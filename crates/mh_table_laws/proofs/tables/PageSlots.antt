@@ -1,5 +1,5 @@
 -- Tables whose pages have the slots of their classes, and blocks within the limits of objects: what keeps them so.
-use Rattle.std.proofs.Common.{◌≡◌, ℕ, ◌+◌, ◌==◌, ◌<◌, ◌≤◌, ◌&&◌, nat_lt, nat_le, Bool, true, false, if◌then◌else◌, inl, inr, Option, Some, None, option_map, option_and_then, set, find, length, refl, sym, ◌∙◌, subst, arith}
+use Rattle.std.proofs.Common.{◌≡◌, ℕ, ◌+◌, ◌==◌, ◌<◌, ◌≤◌, ◌&&◌, nat_lt, nat_le, Bool, true, false, if◌then◌else◌, inl, inr, Option, Some, None, option_map, option_and_then, set, find, refl, sym, ◌∙◌, subst}
 use Rattle.std.proofs.lemmas.Bool.{and_parts, ltb-true, leb-true}
 use Rattle.std.proofs.lemmas.Option.{none-some, same_Some}
 use Rattle.std.proofs.lemmas.List.{length-set, length-replicate}
@@ -8,8 +8,8 @@ use Rattle.mh_model.specs.Pages.{Page, Table, page_number, slot_number, page_at,
 use Rattle.mh_model.specs.declared.shape.Shape.{Shape}
 use Rattle.mh_model.specs.Table.{Block, IsWithinLimits, HasSmallBlocks, with_block_change}
 use Rattle.mh_model.specs.Collector.{judged_page}
-use Rattle.mh_table_laws.specs.Tables.{KeepsItsPages, BlocksAreInPages}
-use Rattle.mh_table_laws.proofs.Lists.{below_length, get_or-set_either, find-passes, member-passes, none_at}
+use Rattle.mh_table_laws.specs.Tables.{KeepsItsPages}
+use Rattle.mh_table_laws.proofs.Lists.{get_or-set_either, find-passes, member-passes, none_at}
 
 -- Classes ----------------------------------------------------------------------------------------
 
@@ -141,18 +141,3 @@ module _ (made : ℕ) where
     where
       taken : Page Block
       taken = page_for size (page_at table (page_number place))
-
--- a block is in a page of the table
-pub blocks-in_pages : BlocksAreInPages
-blocks-in_pages = record {
-  below = λ table place block e. let (page, at, there, within) = found table place block e in omega (arith, below_length table (page_number place) page at);
-  page = found;
-  limits = small_block;
-}
-  where
-    found : (table : Table Block) (place : ℕ) (block : Block) → block_at table place ≡ Some block → (page : Page Block) × (page_at table (page_number place) ≡ Some page) × (block_in (slot_number place) page ≡ Some block) × (slot_number place < length page.slots)
-    found table place block e = go (page_at table (page_number place)) refl e
-      where
-        go : (content : Option (Page Block)) → page_at table (page_number place) ≡ content → option_and_then (block_in (slot_number place)) content ≡ Some block → (page : Page Block) × (page_at table (page_number place) ≡ Some page) × (block_in (slot_number place) page ≡ Some block) × (slot_number place < length page.slots)
-        go None at h = absurd (none-some block h)
-        go (Some page) at h = (page, at, h, below_length page.slots (slot_number place) block h)

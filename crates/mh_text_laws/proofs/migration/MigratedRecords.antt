@@ -123,11 +123,6 @@ migrated_legal config text written count first made h =
     let same : written ≡ migration_text config (Legal count) (history_reading text) = made.2 ∙ ap (λ (v : Verdict). migration_text config v (history_reading text)) verdict in
     subst (λ (t : Text). IsAudited t (Legal count)) (sym same) (migrated_by config text count (history_reading text) refl first h)
 
-pub migrated-once : (config : Config) (text one other : Text) → IsMigratedTo config text one → IsMigratedTo config text other → one ≡ other
-migrated-once config text one other h k =
-    let verdict : h.0 ≡ k.0 = checked-once config text h.0 k.0 h.1 k.1 in
-    h.2 ∙ ap (λ (v : Verdict). migration_text config v (history_reading text)) verdict ∙ sym k.2
-
 pub texts_migrated : (config : Config) (text : Text) → (written : Text) × IsMigratedTo config text written
 texts_migrated config text =
     let found = texts_checked config text in

@@ -39,9 +39,6 @@ number_is word n h =
     let written = decimal-digits_value numerals word numeral.digits numeral.some numeral.one small in
     (ap decimal (sym found.1) ∙ written, ap (λ (m : ℕ). nat_lt m u64) (sym found.1) ∙ both.1)
 
-pub number-again : (word : Text) (n : ℕ) → number word ≡ Some n → (decimal n ≡ word) × (n < 2 ^ 64)
-number-again word n h = let found = number_is word n h in (found.0, ltb-true n (2 ^ 64) found.1)
-
 -- Options ----------------------------------------------------------------------------------------
 
 -- what a value is made of, that a chain of options gives

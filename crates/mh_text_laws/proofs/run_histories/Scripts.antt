@@ -8,18 +8,14 @@ use Rattle.mh_model.specs.declared.command.Control.{Control}
 use Rattle.mh_model.specs.declared.command.Event.{Event}
 use Rattle.mh_model.specs.declared.command.Event.TheVariants as event
 use Rattle.mh_model.specs.declared.config.Config.{Config}
-use Rattle.mh_model.specs.declared.config.Rules.{Rules}
 use Rattle.mh_model.specs.declared.config.Rules.TheVariants.{Second}
 use Rattle.mh_model.specs.declared.history.Version.TheVariants.{Two}
 use Rattle.mh_model.specs.Bytes.{Text, cut_after, is_name, is_text, numbers, words}
-use Rattle.mh_model.specs.Configs.{configured_by, with_rules}
+use Rattle.mh_model.specs.Configs.{configured_by}
 use Rattle.mh_model.specs.Forms.{command_of, command_phrase, control_of, control_phrase, is_sayable, knows_control}
 use Rattle.mh_model.specs.HistoryTexts.{is_event}
 use Rattle.mh_model.specs.Limits.{is_configuration}
-use Rattle.mh_model.specs.Output.{output, output_of}
-use Rattle.mh_model.specs.RunHistories.{output_under, reading_under, under_rules}
 use Rattle.mh_model.specs.Script.{Asks, BadLine, Blank, Calls, Line, Meaning, Means, Reading, Wrong, after_config, asks, calls, config_of, config_words, events_from, is_blank, line_of, line_words, reading, reading_map, script_from, script_of, session_number, with_name}
-use Rattle.mh_text_laws.specs.RunHistories.{ScriptsAreUnderTheSecondRules}
 use Rattle.mh_text_laws.proofs.rewritings.FormsWrittenAgain.{command_is, control_again}
 
 -- a reading that was changed, and means something
@@ -153,20 +149,3 @@ script_known text script e = go (nat_lt 67108864 (length text)) e
     go : (long : Bool) → (if long then BadLine 0 else script_of (cut_after 10 text)) ≡ Means script → IsKnown script
     go true h = cc
     go false h = lines_known 1 (cut_after 10 text).pieces (cut_after 10 text).rest script h
-
--- The second rules -------------------------------------------------------------------------------
-
-second_same : (config : Config) → config.rules ≡ Second → with_rules Second config ≡ config
-second_same config is = ap (λ (rules : Rules). with_rules rules config) (sym is)
-
-second_reading : (text : Text) → reading_under Second text ≡ reading text
-second_reading text = go (reading text) refl
-  where
-    go : (r : Reading Meaning) → reading text ≡ r → reading_map (under_rules Second) r ≡ r
-    go (BadLine n) is = refl
-    go (Means script) is = ap (λ (config : Config). Means (record { config = config; events = script.events })) (second_same script.config (script_known text script is).second)
-
--- A script without options is one under the second rules
-pub under_second : ScriptsAreUnderTheSecondRules
-unfolding output_under output
-under_second = record { readings = second_reading; outputs = λ text. ap output_of (second_reading text) }

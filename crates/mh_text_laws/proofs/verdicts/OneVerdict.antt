@@ -8,11 +8,11 @@ use Rattle.mh_model.specs.Machine.{first_machine}
 use Rattle.mh_model.specs.History.{IsLegal, IsFirstBadOf}
 use Rattle.mh_model.specs.Bytes.{Text}
 use Rattle.mh_model.specs.Script.{Reading, BadLine, Means}
-use Rattle.mh_model.specs.HistoryTexts.{Recorded, IsJudged, IsLegalRecord, history_reading, recorded_reading, IsChecked, IsAudited}
+use Rattle.mh_model.specs.HistoryTexts.{IsJudged, history_reading, IsChecked}
 use Rattle.mh_model.specs.declared.history.Verdict.{Verdict}
 use Rattle.mh_model.specs.declared.history.Verdict.TheVariants.{Refused, Legal, FirstBad}
 use Rattle.mh_text_laws.proofs.verdicts.StepRules.{rule-begins}
-use Rattle.mh_text_laws.proofs.verdicts.LegalHistories.{IsAnswered, after_entry, legal_rule, IsRight, after_measured, record_rule}
+use Rattle.mh_text_laws.proofs.verdicts.LegalHistories.{IsAnswered, after_entry, legal_rule}
 
 -- an entry before the first bad one is not the first bad one
 no_earlier_entry : {X : Type 0} (Lawful : List X → Type 0) → ((n : ℕ) (xs : List X) → Lawful xs → Lawful (take n xs)) → (entries : List X) (i j : ℕ) → i < j
@@ -56,16 +56,3 @@ checked_by config text (Means entries) v w is h k =
 
 pub checked-once : (config : Config) (text : Text) (v w : Verdict) → IsChecked config text v → IsChecked config text w → v ≡ w
 checked-once config text v w h k = checked_by config text (history_reading text) v w refl h k
-
-audited_by : (text : Text) (found : Reading Recorded) (v w : Verdict) → recorded_reading text ≡ found → IsAudited text v → IsAudited text w → v ≡ w
-audited_by text (BadLine line) v w is h k =
-    let one : v ≡ Refused line = rw is at h in
-    let other : w ≡ Refused line = rw is at k in
-    one ∙ sym other
-audited_by text (Means r) v w is h k =
-    let one : IsJudged (IsLegalRecord r.config) r.entries v = rw is at h in
-    let other : IsJudged (IsLegalRecord r.config) r.entries w = rw is at k in
-    judged-once (IsLegalRecord r.config) (rule-begins IsRight after_measured (first_machine r.config) (IsLegalRecord r.config) (record_rule r.config)) r.entries v w one other
-
-pub audited-once : (text : Text) (v w : Verdict) → IsAudited text v → IsAudited text w → v ≡ w
-audited-once text v w h k = audited_by text (recorded_reading text) v w refl h k

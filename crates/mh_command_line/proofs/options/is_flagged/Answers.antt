@@ -7,5 +7,4 @@ use Rattle.mh_command_line.proofs.options.is_flagged.Goals as goal
 pub returns : goal.returns
 returns c =
     let same = one_text-rows (found_of c.args.matches.now) c.args.name.now in
-    flag-read (one_of c.args.name.now (rows_of (found_of c.args.matches.now))) c.get_flag.result c.requires
-    (λ e. c.get_flag.ensures.none (same ∙ e)) (λ e. c.get_flag.ensures.value (same ∙ e)) (λ e. c.get_flag.ensures.other (same ∙ e))
+    c.unwrap_or.ensures ∙ flag-read _ (one_of c.args.name.now (rows_of (found_of c.args.matches.now))) c.get_one.result (λ e. c.get_one.ensures.none (same ∙ e)) (λ t e. c.get_one.ensures.value t (same ∙ e))

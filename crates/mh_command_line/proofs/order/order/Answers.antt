@@ -1,5 +1,5 @@
 use Rattle.std.proofs.Common.{rules}
-use Rattle.mh_command_line.proofs.SubcommandLemmas.{gives_order, matched_one, options_refused, version_asked, words_refused}
+use Rattle.mh_command_line.proofs.OrderLemmas.{gives_order, matched_one, options_refused, version_asked, words_refused}
 use Rattle.mh_command_line.proofs.order.order.Goals as goal
 
 pub order_of-requires : goal.order_of-requires

@@ -14,8 +14,8 @@ pub returns-then-is_silent-clause-full : goal.returns-then-is_silent-clause-full
 returns-then-is_silent-clause-full g c =
     on_err_weaker c.make.result (λ full. no_group c.args.blocks.now c.args.birth c.args.stamp c.args.parts.now c.get.result (sym c.get.ensures) (omega arith) full) c.make.ensures.full
 
-pub add_parts-requires-clause-there : goal.add_parts-requires-clause-there
-add_parts-requires-clause-there g c = λ number below.
+pub tell_parts-requires-clause-there : goal.tell_parts-requires-clause-there
+tell_parts-requires-clause-there g c = λ number below.
     let inside : number < length c.args.parts.now = omega arith in
     parts-there c.make_parts.new.blocks c.make_parts.new.places _ c.deref.result.now c.args.parts.now c.room.inside.places.len c.deref.ensures.value (omega arith) (omega arith) c.in_ok-make_parts.ensures.unlinked number inside
 

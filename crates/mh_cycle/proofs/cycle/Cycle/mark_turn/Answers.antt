@@ -1,4 +1,4 @@
-use Rattle.std.proofs.Common.{◌≤◌, arith}
+use Rattle.std.proofs.Common.{arith}
 use Rattle.mh_cycle.proofs.StrideLemmas.{turn-run, turn-wider}
 use Rattle.mh_cycle.proofs.cycle.Cycle.mark_turn.Goals as goal
 

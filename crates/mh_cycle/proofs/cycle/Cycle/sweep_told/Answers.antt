@@ -1,17 +1,11 @@
-use Rattle.std.proofs.Common.{◌<◌, ◌≤◌, ◌/◌, arith, length, ap}
-use Rattle.mh_cycle.proofs.ToldLemmas.{sweep-ends, sweep-goes}
+use Rattle.std.proofs.Common.{false, ◌∙◌, sym, ap, subst}
+use Rattle.mh_model.specs.Deeds.{deeds_in}
+use Rattle.mh_deeds.specs.Logs.{Told}
+use Rattle.mh_cycle.specs.State.{CycleState}
+use Rattle.mh_cycle.proofs.TellingLemmas.{step-told}
 use Rattle.mh_cycle.proofs.cycle.Cycle.sweep_told.Goals as goal
 
-pub returns-then-page-len-clause-after : goal.returns-then-page-len-clause-after
-returns-then-page-len-clause-after c =
-    let phase = rw (← c.self.view_is) at c.requires in
-    let past : length c.sweep_told-next.new.blocks ≤ c.sweep_told-next.result / 64 = omega arith in
-    let done = c.sweep_told-next.ensures in
-    rw (← c.self.view_is) (ap (λ x. record { config = c.self.inside.config; collector = x }) (sweep-ends _ _ _ phase done.table done.next past))
-
-pub returns-else-page-len-clause-after : goal.returns-else-page-len-clause-after
-returns-else-page-len-clause-after c =
-    let phase = rw (← c.self.view_is) at c.requires in
-    let inside : c.sweep_told-next.result / 64 < length c.sweep_told-next.new.blocks = omega arith in
-    let done = c.sweep_told-next.ensures in
-    rw (c.next.view_is, ← c.self.view_is) (ap (λ x. record { config = c.self.inside.config; collector = x }) (sweep-goes _ _ _ phase done.table done.next inside))
+pub returns-clause-told : goal.returns-clause-told
+returns-clause-told g c =
+    step-told g.L.Log.has c.args.self.now.collector false _ _ _ _ _ (sym c.requires) (ap (λ (s : CycleState). s.collector.phase) (c.self.view_is ∙ c.slot_told.ensures.after))
+    (subst (λ deeds. Told g.L.Log.has c.args.log.now deeds c.slot_told.new.log) (sym (ap (λ p. deeds_in p c.args.self.now.collector false) c.requires)) c.slot_told.ensures.told) c.tell_phase.ensures

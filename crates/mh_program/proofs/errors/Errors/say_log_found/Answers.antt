@@ -1,5 +1,5 @@
 use Rattle.std.proofs.Common.{sym, subst}
-use Rattle.mh_log.specs.declared.judgement.LogJudgement.{LogJudgement}
+use Rattle.mh_log.specs.Judgements.{LogJudgement}
 use Rattle.mh_program.specs.Complaints.{SaysLog}
 use Rattle.mh_program.proofs.TellingLemmas.{quotes}
 use Rattle.mh_program.proofs.errors.Errors.say_log_found.Goals as goal

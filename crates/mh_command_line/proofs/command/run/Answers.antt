@@ -1,7 +1,0 @@
-use Rattle.mh_command_line.proofs.CommandLemmas.{next-option}
-use Rattle.mh_command_line.proofs.command.run.Goals as goal
-
-pub returns-clause-app : goal.returns-clause-app
-returns-clause-app c =
-    let first = next-option c.with_option-command.result c.with_workers-command.result _ _ _ c.with_workers-command.ensures.app c.rules.ensures.rule c.with_option-command.ensures.app in
-    next-option c.with_option.result c.with_option-command.result _ _ _ first c.flag.ensures.rule c.with_option.ensures.app

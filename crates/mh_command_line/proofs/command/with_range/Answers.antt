@@ -1,7 +1,0 @@
-use Rattle.mh_command_line.proofs.CommandLemmas.{first-option, next-option}
-use Rattle.mh_command_line.proofs.command.with_range.Goals as goal
-
-pub returns-clause-app : goal.returns-clause-app
-returns-clause-app c =
-    let first = first-option c.with_option-command.result _ _ _ _ c.subcommand-command.ensures.app c.step.ensures.rule c.with_option-command.ensures.app in
-    next-option c.with_option.result c.with_option-command.result _ _ _ first c.step-2.ensures.rule c.with_option.ensures.app
