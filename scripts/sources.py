@@ -7,7 +7,7 @@ CLAUSE = re.compile(r"\b(requires|ensures)( \w+)?\s*$")
 DEFINITION = re.compile(r" *(?:(?:abbrev|unfoldable) pub|pub record|pub data) (\S+)")
 ROW = re.compile(r"pub (\w+) :")
 WORD = re.compile(r"[^\W\d][\w'-]*")
-USED = re.compile(r"(?m)^\s*(?:pub )?(?:ghost )?use Rattle\.([\w.]+)\.\{([^}]*)\}")
+USED = re.compile(r"(?m)^\s*(?:pub )?(?:ghost )?use Rattle\.([\w.]+)\.\{(.*)\};?$")
 OWNER = re.compile(r"(?m)^(?:pub (trait)|impl)\b")
 GHOST = re.compile(r"(?m)^[ \t]*((?:pub )?ghost \w+: \{.*)$")
 TYPE = re.compile(r"(?m)^pub (?:struct|enum|trait) (\w+)")
@@ -62,11 +62,34 @@ def signature(text, at):
     return text[at:place]
 
 
+def parts(text):
+    """The parts of a list that stand between its outer commas."""
+    found, depth = [""], 0
+    for sign in text:
+        depth += {"{": 1, "}": -1}.get(sign, 0)
+        if sign == "," and not depth:
+            found.append("")
+        else:
+            found[-1] += sign
+    return [it.strip() for it in found]
+
+
+def brought(module, text):
+    """What a list of imports in braces brings: pairs of a module and a name, maybe with its `as`."""
+    for part in parts(text):
+        path, brace, names = part.partition(".{")
+        if brace:
+            yield from brought(f"{module}.{path}", names[:-1])
+        else:
+            path, dot, name = part.rpartition(".")
+            yield (f"{module}.{path}", name) if dot and path.strip(".") else (module, part)
+
+
 def imports(text):
     """What the names that a file imports stand for: crate, path and name."""
     found = {}
-    for path, names in USED.findall(text):
-        for name in filter(None, (it.strip() for it in names.split(","))):
+    for module, names in USED.findall(text):
+        for path, name in brought(module, names):
             first, _, other = name.partition(" as ")
             found[other or first] = f"{path}.{first}"
     return found
@@ -86,7 +109,7 @@ def owners(text):
     for found in OWNER.finditer(text):
         start = text.index("{", found.end())
         head = without_parameters(text[found.end():start].lstrip()).rpartition(" for ")[2]
-        yield found[1] is not None, re.match(r"\s*(?:\w+::)*(\w+)", head)[1], found.start(), closing(text, start)
+        yield found[1] is not None, re.match(r"\s*(?:\w+::)*(\w+|\(\))", head)[1], found.start(), closing(text, start)
 
 
 def without_hidden(head, clauses):

@@ -22,19 +22,16 @@ use denote.Signature.{Slot, plain}
 use denote.Steps.{nothing}
 use denote.Struct.Struct.{within}
 use denote.Struct.Owning.{shape, to}
-use Rattle.std.proofs.alloc.Calls.{α, Fits, handle_tells}
-use Rattle.std.proofs.BoxSteps.Form.{Bx, box_ty}
-use Rattle.std_alloc.proofs.ResultValues.{and_tt}
+use Rattle.std.proofs.{alloc.Calls.{α, Fits, handle_tells}, BoxSteps.Form.{Bx, box_ty}}
 use Rattle.std.proofs.GlobalToken.{dealloc_token-Testable}
-use Rattle.std.specs.Box.Ownership.{box_owns}
-use Rattle.std.specs.declared.alloc.Global.{Global}
-use Rattle.std.specs.declared.option.Option.{Option}
+use Rattle.std_alloc.proofs.ResultValues.{and_tt}
+use Rattle.std.specs.{Box.Ownership.box_owns, declared.alloc.Global.Global, declared.option.Option.Option}
 use Rattle.std.specs.declared.option.Option.TheVariants.{None, Some}
-use Rattle.std.specs.contracts.alloc.Global as heap
 use Rattle.std.specs.contracts.impls.GlobalAllocator.TheImpl.{ghosts, dict}
+use Rattle.metroheap_c.specs.Held.{Kept, handle_owns}
+use Rattle.std.specs.contracts.alloc.Global as heap
 use Rattle.std.proofs.alloc.Global.TheLaws as heap_laws
 use Rattle.metroheap_c.specs.contracts.parts.Parts as Parts
-use Rattle.metroheap_c.specs.Held.{Kept, handle_owns}
 use Rattle.mh_embed.specs.contracts.embedded.Embedded as kept
 use Rattle.mh_embed.proofs.embedded.Embedded.TheLaws as kept_laws
 use Rattle.metroheap_c.specs.contracts.handle.Handle as handle

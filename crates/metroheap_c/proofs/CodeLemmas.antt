@@ -1,8 +1,6 @@
 -- The numbers of statuses fit 32 bits.
 use Rattle.std.proofs.Common.{◌≡◌, w32, ℤ, to_z, of_z, refl, ap, ◌∙◌}
-use Rattle.mh_embed.specs.declared.status.Status.{Status}
-use Rattle.mh_embed.specs.declared.status.Status.TheVariants.{Done}
-use Rattle.mh_embed.specs.Statuses.{code_of}
+use Rattle.mh_embed.specs.{declared.status.Status.Status, declared.status.Status.TheVariants.Done, Statuses.code_of}
 
 fits : (status : Status) → to_z w32 (of_z w32 (code_of status)) ≡ code_of status
 fits Done = refl

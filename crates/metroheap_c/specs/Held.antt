@@ -1,11 +1,8 @@
 -- What a handle of C owns: nothing where its pointer is null, and else a box.
 use base.Fml.{Fml, ftrue, ffalse}
 use denote.RawPtr.{Ptr, block_ptr, null_ptr}
-use Rattle.std.specs.Box.Ownership.{box_owns}
-use Rattle.std.specs.declared.alloc.Global.{Global}
-use Rattle.std.specs.declared.option.Option.{Option}
-use Rattle.std.specs.declared.option.Option.TheVariants.{None, Some}
-use Rattle.std.specs.contracts.impls.GlobalAllocator.TheImpl.{ghosts}
+use Rattle.std.specs.{Box.Ownership.box_owns, declared.alloc.Global.Global, declared.option.Option.Option}
+use Rattle.std.specs.{declared.option.Option.TheVariants.{None, Some}, contracts.impls.GlobalAllocator.TheImpl.ghosts}
 use Rattle.mh_embed.specs.contracts.embedded.Embedded.{the_row}
 
 -- what a handle keeps

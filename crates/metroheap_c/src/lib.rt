@@ -6,12 +6,12 @@
 #![tactic(auto)]
 
 ghost use Rattle.std.specs.Prelude.{◌≡◌, ◌==◌, not, None, option_map};
-ghost use Rattle.mh_model.specs.declared.command.Control.TheVariants as controls;
 ghost use Rattle.mh_model.specs.Script.{line_of};
 ghost use Rattle.mh_embed.specs.Configs.{numbered_config, world_config};
 ghost use Rattle.mh_embed.specs.Driving.{first_driven, first_world_driven, without_newline};
 ghost use Rattle.mh_embed.specs.Endings.{AnswerEnds, DeedEnds, ForgetEnds, ItemEnds, JudgeEnds, ReasonEnds, ReplyEnds, ReportEnds, ReserveEnds, SeeEnds, StepEnds, TellEnds, TextEnds, UnitsEnd};
 ghost use Rattle.metroheap_c.specs.Calls.{AnswersSo, IsUntold, OnHandle, Opens, Reads, version_number};
+ghost use Rattle.mh_model.specs.declared.command.Control.TheVariants as controls;
 
 mod handle;
 mod parts;

@@ -1,6 +1,5 @@
 //! A box with its fields in sight of the handle. The handle needs the pointer alone, since C holds it as one.
-ghost use Rattle.std.specs.Prelude.{◌≡◌};
-ghost use Rattle.std.specs.Box.Ownership.{box_owns};
+ghost use Rattle.std.specs.{Prelude.◌≡◌, Box.Ownership.box_owns};
 
 use std::alloc::Allocator;
 use std::marker::Model;

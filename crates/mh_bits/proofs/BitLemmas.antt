@@ -1,11 +1,10 @@
 -- Bits of words: what is set after one bit is set or cleared, and the lowest.
 use Rattle.std.proofs.Common.{◌≡◌, ◌≢◌, ℕ, zero, suc, ◌-◌, ◌*◌, ◌%◌, ◌^◌, ◌<◌, ◌≤◌, ◌==◌, true, false, refl, ap, arith, eq-eqb}
-use Rattle.std.specs.Int.{bit_at, bit_not, w64, trailing_zeros}
-use Rattle.std.specs.Int.RustNames.{bit_or}
-use lib.Bits.{bit_and}
-use mir.Val.{bits}
 use Rattle.std.proofs.lemmas.Bool.{ne_eqb, eqb-true, eqb-false}
 use Rattle.std.proofs.lemmas.Nat.Bits.{bit_at-zero, bit_at-lt, bit_at_set_same, bit_at_set_other, bit_at_clear_same, bit_at_clear_other, bit_at-trailing_zeros, bit_at_ones, bit_at_ones_above}
+use Rattle.std.specs.Int.{bit_at, bit_not, w64, trailing_zeros, RustNames.bit_or}
+use lib.Bits.{bit_and}
+use mir.Val.{bits}
 use Rattle.mh_bits.specs.Bits.{has_bit}
 
 pub has_bit-zero : (i : ℕ) → has_bit 0 i ≡ false
@@ -25,21 +24,11 @@ has_bit-clear_other n k i h l apart = ap (λ b. b == 1) (bit_at_clear_other w64 
 
 -- a bit that isn't set is 0
 pub bit_clear : (n i : ℕ) → has_bit n i ≡ false → bit_at n i ≡ 0
-bit_clear n i e =
-    let small = bit_at-lt n i in
-    let other = eqb-false _ _ e in
-    let zero_or : bit_at n i ≡ 0 = go (bit_at n i) small other in
-    zero_or
-  where
-    go : (b : ℕ) → b < 2 → (b ≡ 1 → ⊥) → b ≡ 0
-    go zero l o = refl
-    go (suc zero) l o = absurd (o refl)
-    go (suc (suc b)) l o = absurd (omega arith)
+bit_clear n i e = grind arith
 
 -- a word with a bit isn't 0
 pub some_bit : (n i : ℕ) → has_bit n i ≡ true → (n == 0) ≡ false
-some_bit zero i e = absurd (omega (arith, eqb-true _ _ e, bit_at-zero i))
-some_bit (suc n) i e = ne_eqb _ _ (λ k. absurd (omega arith))
+some_bit n i e = grind arith
 
 -- the lowest bit of a word
 pub record IsLowest (n k : ℕ) : Type 0 where

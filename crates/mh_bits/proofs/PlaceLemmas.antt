@@ -1,10 +1,8 @@
 -- Sets of places: a bit changed, all cleared, and the word of a page.
 use Rattle.std.proofs.Common.{◌≡◌, ℕ, zero, suc, ◌+◌, ◌*◌, ◌/◌, ◌%◌, ◌<◌, ◌≤◌, ◌^◌, ◌==◌, Bool, true, false, List, length, get_or, set, replicate, refl, ap, nat_eq, ◌∙◌, sym, arith}
-use Rattle.std.specs.Int.{bit_not, w64}
-use Rattle.std.specs.Int.RustNames.{bit_or}
+use Rattle.std.proofs.{lemmas.List.get_or_default, lemmas.Nat.Bits.shr_and_one}
+use Rattle.std.specs.Int.{bit_not, w64, RustNames.bit_or}
 use lib.Bits.{bit_and}
-use Rattle.std.proofs.lemmas.List.{get_or_default}
-use Rattle.std.proofs.lemmas.Nat.Bits.{shr_and_one}
 use Rattle.mh_model.specs.Classes.{tabulate}
 use mir.Val.{bits}
 use Rattle.mh_bits.specs.Bits.{has_bit, has_bit_among, bits_of}
@@ -28,40 +26,28 @@ module _ (words : List ℕ) (places : List Bool) (place word : ℕ) (shown : bit
   read = word_there words (place / 64) word (page_within words places place shown within) is
 
   pub bit_read : nat_eq (bit_and (word / 2 ^ (place % 64)) 1) 1 ≡ get_or places place false
-  bit_read =
-      ap (λ b. b == 1) (shr_and_one word (place % 64))
-      ∙ (ap (λ w. has_bit w (place % 64)) read
-      ∙ (sym (get_or-bits_of words place (omega (arith, page_within words places place shown within))) ∙ ap (λ all. get_or all place false) shown))
+  bit_read = grind (arith, shr_and_one, read, get_or-bits_of, page_within)
 
   pub bit_inserted : bits_of (set words (place / 64) (bit_or word (1 * 2 ^ (place % 64) % 2 ^ bits w64))) ≡ set places place true
-  bit_inserted =
-      bits_of-set words (place / 64) (place % 64) _ true (page_within words places place shown within) (omega arith) (has_bit-set_same word (place % 64) (omega arith))
-      (λ i l apart. has_bit-set_other word (place % 64) i (omega arith) apart ∙ ap (λ w. has_bit w i) read)
-      ∙ (ap (λ k. set (bits_of words) k true) (place_again place) ∙ ap (λ all. set all place true) shown)
+  bit_inserted = grind (arith, bits_of-set, page_within, has_bit-set_same, has_bit-set_other, read, place_again)
 
   pub bit_removed : bits_of (set words (place / 64) (bit_and word (bit_not w64 (1 * 2 ^ (place % 64) % 2 ^ bits w64)))) ≡ set places place false
-  bit_removed =
-      bits_of-set words (place / 64) (place % 64) _ false (page_within words places place shown within) (omega arith) (has_bit-clear_same word (place % 64) (omega arith))
-      (λ i l apart. has_bit-clear_other word (place % 64) i (omega arith) l apart ∙ ap (λ w. has_bit w i) read)
-      ∙ (ap (λ k. set (bits_of words) k false) (place_again place) ∙ ap (λ all. set all place false) shown)
+  bit_removed = grind (arith, bits_of-set, page_within, has_bit-clear_same, has_bit-clear_other, read, place_again)
 
 length-zeros : (n : ℕ) → length {A = ℕ} (replicate n 0) ≡ n
 length-zeros zero = refl
 length-zeros (suc n) = ap suc (length-zeros n)
 
 zero_at : (n k : ℕ) → get_or {A = ℕ} (replicate n 0) k 0 ≡ 0
-zero_at zero k = refl
-zero_at (suc n) zero = refl
 zero_at (suc n) (suc k) = zero_at n k
+zero_at n k = refl
 
 pub none_there : (count : ℕ) → bits_of (replicate count 0) ≡ replicate (64 * count) false
 unfolding bits_of
-none_there count =
-    ap (λ n. tabulate (has_bit_among (replicate count 0)) 0 (64 * n)) (length-zeros count)
-    ∙ tabulate-replicate (has_bit_among (replicate count 0)) 0 (64 * count) false (λ i h l. ap (λ w. has_bit w (i % 64)) (zero_at count (i / 64)) ∙ has_bit-zero (i % 64))
+none_there count = grind (arith, length-zeros, tabulate-replicate, zero_at, has_bit-zero)
 
 pub none_left : (words : List ℕ) (places : List Bool) (count : ℕ) → bits_of words ≡ places → count ≡ length words → bits_of (replicate count 0) ≡ replicate (length places) false
-none_left words places count shown long = none_there count ∙ ap (λ n. replicate n false) (ap (λ n. 64 * n) long ∙ (sym (length-bits_of words) ∙ ap length shown))
+none_left words places count shown long = grind (arith, none_there, length-bits_of)
 
 -- the word of a page
 module _ (words : List ℕ) (places : List Bool) (page : ℕ) (shown : bits_of words ≡ places) (within : 64 * page + 64 ≤ length places) where
@@ -69,9 +55,4 @@ module _ (words : List ℕ) (places : List Bool) (page : ℕ) (shown : bits_of w
   word_within = omega (arith, length-bits_of words, ap length shown)
 
   pub bits_there : (word slot : ℕ) → word ≡ get_or words page word → slot < 64 → has_bit word slot ≡ get_or places (64 * page + slot) false
-  bits_there word slot is small =
-      let row : (64 * page + slot) / 64 ≡ page = omega arith in
-      let column : (64 * page + slot) % 64 ≡ slot = omega arith in
-      ap (λ w. has_bit w slot) (word_there words page word word_within is)
-      ∙ (sym (get_or-bits_of words (64 * page + slot) (omega (arith, word_within)) ∙ (ap (λ k. has_bit (get_or words k 0) ((64 * page + slot) % 64)) row ∙ ap (has_bit (get_or words page 0)) column))
-      ∙ ap (λ all. get_or all (64 * page + slot) false) shown)
+  bits_there word slot is small = grind (arith, word_there, word_within, get_or-bits_of)

@@ -1,6 +1,5 @@
 -- The bits of words.
-use Rattle.std.specs.Prelude.{◌≡◌, ◌<◌, ◌≤◌, ℕ, ◌*◌, ◌/◌, ◌%◌, ◌==◌, Bool, List, length, get_or}
-use Rattle.std.specs.Int.{bit_at}
+use Rattle.std.specs.{Prelude.{◌≡◌, ◌<◌, ◌≤◌, ℕ, ◌*◌, ◌/◌, ◌%◌, ◌==◌, Bool, List, length, get_or}, Int.bit_at}
 use Rattle.mh_model.specs.Classes.{tabulate}
 
 -- whether a bit of a word is set

@@ -8,11 +8,11 @@ use std::marker::Model;
 
 /// How many words were read.
 #[derive(Drop)]
-pub struct Tally {
+pub struct ReadCount {
     reads: u64,
 }
 
-impl Model for Tally {
+impl Model for ReadCount {
     ghost use Rattle.std.specs.Prelude.{ℕ};
 
     ghost Value = { ℕ };
@@ -20,12 +20,12 @@ impl Model for Tally {
     ghost view = { λ tally. tally.reads };
 }
 
-impl Tally {
+impl ReadCount {
     /// None so far.
-    pub fn new() -> Tally
+    pub fn new() -> ReadCount
         ensures { result ≡ 0 }
     {
-        Tally { reads: 0 }
+        ReadCount { reads: 0 }
     }
 
     /// How many words were read.
@@ -68,7 +68,7 @@ impl Counted {
     }
 
     /// The only call that gives the value of a word.
-    pub fn read(&self, at: usize, tally: &mut Tally) -> u64
+    pub fn read(&self, at: usize, tally: &mut ReadCount) -> u64
         requires within { at < length self.now }
         requires few { tally.old < 2 ^ 62 }
         ensures value { result ≡ get_or self.now at 0 }

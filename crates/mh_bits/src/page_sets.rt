@@ -4,7 +4,7 @@
 ghost use Rattle.std.specs.Prelude.{◌≡◌, ◌<◌, ◌≤◌, ◌+◌, ◌*◌, ◌^◌, true, false, length, slice_set, IfOk, MatchOption, MatchBool};
 ghost use Rattle.mh_bits.specs.Sets.{empty_sets, HasLower, HasNoLower, IsEmptySet, IsLeastMember};
 
-use crate::counted::{Counted, Tally};
+use crate::counted::{Counted, ReadCount};
 use mh_model::memory::NoMemory;
 use std::alloc::Global;
 use std::marker::Model;
@@ -22,8 +22,7 @@ pub struct PageSets {
 
 impl Model for PageSets {
     ghost use Rattle.std.specs.Prelude.{List, Bool};
-    ghost use Rattle.mh_bits.specs.Bits.{bits_of};
-    ghost use Rattle.mh_bits.specs.Sets.{IsSummed};
+    ghost use Rattle.mh_bits.specs.{Bits.bits_of, Sets.IsSummed};
 
     ghost Value = { List Bool };
 
@@ -50,7 +49,7 @@ impl PageSets {
         requires page { page < 4096 }
         ensures { self.new ≡ slice_set self.old (4096 * set + page) true }
     {
-        let mut tally = Tally::new();
+        let mut tally = ReadCount::new();
         let summary = self.summaries.read(set, &mut tally) | 1 << (page / WORDS);
         let at = set * WORDS + page / WORDS;
         let word = self.words.read(at, &mut tally) | 1 << (page % WORDS);
@@ -64,7 +63,7 @@ impl PageSets {
         requires page { page < 4096 }
         ensures { self.new ≡ slice_set self.old (4096 * set + page) false }
     {
-        let mut tally = Tally::new();
+        let mut tally = ReadCount::new();
         let summary = self.summaries.read(set, &mut tally);
         let at = set * WORDS + page / WORDS;
         let word = self.words.read(at, &mut tally) & !(1 << (page % WORDS));
@@ -89,7 +88,7 @@ impl PageSets {
     }
 
     /// The least page in a set. It reads two words, or one if there is none.
-    pub fn least(&self, set: usize, tally: &mut Tally) -> Option<usize>
+    pub fn least(&self, set: usize, tally: &mut ReadCount) -> Option<usize>
         requires set { 4096 * set + 4096 ≤ length self.now }
         requires few { tally.old < 2 ^ 61 }
         ensures least { MatchOption result (IsEmptySet self.now set) (λ page. IsLeastMember self.now set page) }
@@ -104,7 +103,7 @@ impl PageSets {
         Some(row * WORDS + word.trailing_zeros() as usize)
     }
     /// Whether a set has a member below a page. It reads two words at most.
-    pub fn has_lower(&self, set: usize, page: usize, tally: &mut Tally) -> bool
+    pub fn has_lower(&self, set: usize, page: usize, tally: &mut ReadCount) -> bool
         requires set { 4096 * set + 4096 ≤ length self.now }
         requires few { tally.old < 2 ^ 61 }
         ensures lower { MatchBool result (HasLower self.now set page) (HasNoLower self.now set page) }

@@ -1,8 +1,7 @@
 -- The block that words stand for: its fields read, and one of its words written.
 use Rattle.std.proofs.Common.{◌≡◌, ◌≢◌, ℕ, zero, suc, ◌+◌, ◌<◌, ◌≤◌, List, [], ◌∷◌, length, map, get_or, set, take, drop, None, refl, ap, ◌∙◌, arith}
 use Rattle.std.proofs.lemmas.List.{map-set, length-map, length-take-le, length-drop, drop-set-lt, drop-set-add, take-set-le, get_or-map, get_or-take, get_or-drop, get_or-set_same, get_or-set_other}
-use Rattle.mh_blocks.specs.Words.{place_in, reference_words, number_words, block_from, block_of}
-use Rattle.mh_blocks.specs.Packed.{IsPacked}
+use Rattle.mh_blocks.specs.{Words.{place_in, reference_words, number_words, block_from, block_of}, Packed.IsPacked}
 
 -- Fields read --------------------------------------------------------------------------------------
 

@@ -1,10 +1,7 @@
 -- Which blocks a table has after one was changed, put or taken back.
 use Rattle.std.proofs.Common.{◌≡◌, ℕ, ◌⊎◌, inl, inr, Bool, true, false, set, Option, Some, None, option_map, option_and_then, refl, sym, ap, ◌∙◌}
-use Rattle.std.proofs.lemmas.Bool.{cases_eq}
-use Rattle.std.proofs.lemmas.Option.{none-some, same_Some}
-use Rattle.std.proofs.lemmas.List.{get_or-set_other}
-use Rattle.mh_table_laws.proofs.Lists.{get_or-set_either}
-use Rattle.mh_table_laws.proofs.placing.Places.{block_in-page_for}
+use Rattle.std.proofs.{lemmas.Bool.cases_eq, lemmas.Option.{none-some, same_Some}, lemmas.List.get_or-set_other}
+use Rattle.mh_table_laws.proofs.{Lists.get_or-set_either, placing.Places.block_in-page_for}
 use Rattle.mh_model.specs.Pages.{Page, Table, page_number, slot_number, page_at, block_in, block_at, page_with, with_block, page_for, with_taken, with_released, flagged_as, with_flag}
 
 module _ {X : Type 0} where

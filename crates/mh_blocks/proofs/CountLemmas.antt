@@ -1,15 +1,11 @@
 -- How many blocks of a table pass a test, and so how many there are and how many are forwarders, as the table changes.
 use Rattle.std.proofs.Common.{◌≡◌, ℕ, zero, suc, ◌+◌, ◌*◌, ◌<◌, ◌≤◌, Bool, true, false, if◌then◌else◌, List, [], ◌∷◌, length, filter, set, get_or, replicate, Option, Some, None, option_map, option_and_then, unwrap_or, refl, sym, ap, ◌∙◌, arith}
-use Rattle.std.proofs.lemmas.Option.{none-some}
-use Rattle.std.proofs.lemmas.List.{length-append}
-use Rattle.std.proofs.lemmas.List.Elements.{filter-append}
+use Rattle.std.proofs.{lemmas.Option.none-some, lemmas.List.length-append, lemmas.List.Elements.filter-append}
 use Rattle.mh_model.specs.Classes.{slots_in}
 use Rattle.mh_model.specs.Pages.{Page, Table, page_number, slot_number, page_at, block_in, block_at, block_count, live_in, count_at, page_with, with_block, page_for, with_taken, with_released, with_flag, HasItsSlots, HaveTheirSlots, IsFreeFor}
-use Rattle.mh_model.specs.Table.{Block}
-use Rattle.mh_model.specs.Machine.{blocks_in, blocks_of}
-use Rattle.mh_pages.proofs.OfClasses.ClassLemmas.{class_is}
-use Rattle.mh_table_laws.proofs.Lists.{below_length}
-use Rattle.mh_table_laws.proofs.placing.Places.{block_in-page_for}
+use Rattle.mh_model.specs.{Table.Block, Machine.{blocks_in, blocks_of}}
+use Rattle.mh_classes.proofs.ClassLemmas.{class_is}
+use Rattle.mh_table_laws.proofs.{Lists.below_length, placing.Places.block_in-page_for}
 
 -- Lists --------------------------------------------------------------------------------------------
 

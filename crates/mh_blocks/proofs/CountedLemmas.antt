@@ -1,10 +1,9 @@
 -- Each change of a table changes how many blocks and forwarders it has by what it puts and takes.
 use Rattle.std.proofs.Common.{◌≡◌, ℕ, suc, ◌+◌, ◌-◌, ◌≤◌, Bool, true, false, if◌then◌else◌, List, [], ◌∷◌, length, set, replicate, Option, Some, None, option_map, option_and_then, is_some, IsSome, refl, ap, ◌∙◌, arith}
-use mir.Val.{bool_byte}
 use Rattle.std.proofs.lemmas.Bool.{false≢true}
+use mir.Val.{bool_byte}
 use Rattle.mh_model.specs.Pages.{Table, page_number, block_at, count_at, with_block, with_taken, with_released, with_flag, HaveTheirSlots, IsFreeFor}
-use Rattle.mh_model.specs.Table.{Block, is_forwarder, forward_at, with_block_change}
-use Rattle.mh_model.specs.Collector.{Move, moved_table}
+use Rattle.mh_model.specs.{Table.{Block, is_forwarder, forward_at, with_block_change}, Collector.{Move, moved_table}}
 use Rattle.mh_model.specs.Machine.{blocks_of}
 use Rattle.mh_blocks.specs.Counted.{HasCounts}
 use Rattle.mh_table_laws.proofs.placing.Places.{block_at-with_taken_there}

@@ -1,16 +1,13 @@
 -- What a sweep frees of a page, slot by slot and by words.
 use Rattle.std.proofs.Common.{◌≡◌, ℕ, zero, suc, ◌+◌, ◌-◌, ◌*◌, ◌%◌, ◌^◌, ◌<◌, ◌≤◌, ◌==◌, min, max, get_or, Bool, true, false, not, ◌||◌, ◌&&◌, Option, Some, None, option_map, option_and_then, unwrap_or, is_some, IsSome, ◌⊎◌, inl, inr, refl, sym, ap, ◌∙◌, arith}
-use Rattle.std.specs.Int.{bit_at, bit_not, w64}
-use Rattle.std.specs.Int.RustNames.{bit_or}
-use lib.Bits.{bit_and}
-use mir.Val.{bits}
 use Rattle.std.proofs.lemmas.Nat.Bits.{bit_at-lt, bit_at_and, bit_at_or, bit_at_not}
 use Rattle.std.proofs.lemmas.Bool.{cases_eq, false≢true}
-use Rattle.mh_model.specs.Pages.{Table, block_at}
-use Rattle.mh_model.specs.Table.{Block, is_forwarder}
-use Rattle.mh_model.specs.Collector.{is_marked}
-use Rattle.mh_pages.specs.OfBits.Bits.{has_bit}
-use Rattle.mh_pages.proofs.OfBits.BitLemmas.{has_bit-zero, has_bit-set_same, has_bit-set_other}
+use Rattle.std.specs.Int.{bit_at, bit_not, w64, RustNames.bit_or}
+use lib.Bits.{bit_and}
+use mir.Val.{bits}
+use Rattle.mh_model.specs.{Pages.{Table, block_at}, Table.{Block, is_forwarder}, Collector.is_marked}
+use Rattle.mh_bits.specs.Bits.{has_bit}
+use Rattle.mh_bits.proofs.BitLemmas.{has_bit-zero, has_bit-set_same, has_bit-set_other}
 use Rattle.mh_blocks.specs.Marks.{Index, IsIndexOf, is_dead}
 
 -- a block, as what is asked of it says

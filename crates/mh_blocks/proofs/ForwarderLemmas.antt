@@ -1,8 +1,7 @@
 -- A table that counts no forwarder has none at any place.
 use Rattle.std.proofs.Common.{◌≡◌, ℕ, ◌+◌, Bool, true, false, if◌then◌else◌, length, filter, Option, Some, None, is_some, IsSome, option_and_then, refl, ap, ◌∙◌, arith}
 use Rattle.std.proofs.lemmas.Bool.{false≢true}
-use Rattle.mh_model.specs.Pages.{Table, block_at, with_block}
-use Rattle.mh_model.specs.Table.{Block, forward_at, is_forwarder}
+use Rattle.mh_model.specs.{Pages.{Table, block_at, with_block}, Table.{Block, forward_at, is_forwarder}}
 use Rattle.mh_model.specs.Machine.{blocks_of}
 use Rattle.mh_blocks.proofs.CountLemmas.{one, in_table, in_table-with_block}
 

@@ -1,8 +1,7 @@
 -- What holds of the value in an option, and places that are free for it.
 use Rattle.std.proofs.Common.{◌≡◌, ℕ, List, Option, Some, None, IfSome, refl, sym, ◌∙◌, subst}
 use Rattle.std.proofs.lemmas.Option.{same_Some}
-use Rattle.mh_model.specs.Pages.{Table, IsFreeFor}
-use Rattle.mh_model.specs.Table.{Block}
+use Rattle.mh_model.specs.{Pages.{Table, IsFreeFor}, Table.Block}
 use Rattle.mh_table_laws.proofs.PageMapLemmas.{free_below}
 use Rattle.mh_blocks.specs.Words.{block_of, block_table}
 

@@ -1,7 +1,6 @@
 -- The index of a table after each change of it.
 use Rattle.std.proofs.Common.{◌≡◌, ◌≢◌, ℕ, zero, suc, ◌*◌, ◌<◌, ◌==◌, Bool, true, false, List, [], ◌∷◌, length, get_or, set, replicate, Option, Some, None, option_map, option_and_then, unwrap_or, is_some, IsSome, ◌⊎◌, inl, inr, refl, sym, ap, ◌∙◌, arith, get_or-set_same, get_or-set_other}
-use Rattle.std.proofs.lemmas.Bool.{cases_eq, false≢true}
-use Rattle.std.proofs.lemmas.List.{length-set}
+use Rattle.std.proofs.{lemmas.Bool.{cases_eq, false≢true}, lemmas.List.length-set}
 use Rattle.mh_model.specs.Pages.{Page, Table, page_number, slot_number, page_at, block_in, block_at, block_count, count_at, with_block, with_taken, with_released, with_flag, IsFreeFor}
 use Rattle.mh_model.specs.Table.{Block, is_forwarder, with_block_change, with_stamp_at}
 use Rattle.mh_model.specs.Collector.{Move, moved_table, is_marked}

@@ -3,22 +3,16 @@ use Rattle.std.proofs.Common.{◌≡◌, ℕ, ◌+◌, ◌*◌, ◌==◌, Bool, 
 use Rattle.std.proofs.lemmas.Bool.{false≢true}
 use Rattle.mh_model.specs.Classes.{Part, class_of, part_words}
 use Rattle.mh_model.specs.Pages.{Table, page_number, block_at, class_at, count_at, with_taken, with_released, with_flag, IsFreeFor}
-use Rattle.mh_model.specs.Table.{Block, forward_at, new_block}
-use Rattle.mh_model.specs.Collector.{Move, moved_table}
-use Rattle.mh_pages.specs.declared.header.Header.{Header}
-use Rattle.mh_pages.specs.Words.{words_at, with_word, with_header}
-use Rattle.mh_blocks.specs.Words.{place_in, reference_words, block_of, block_table}
-use Rattle.mh_blocks.specs.Packed.{ArePacked}
+use Rattle.mh_model.specs.{Table.{Block, forward_at, new_block}, Collector.{Move, moved_table}}
+use Rattle.mh_pages.specs.{declared.header.Header.Header, Words.{words_at, with_word, with_header}}
+use Rattle.mh_blocks.specs.{Words.{place_in, reference_words, block_of, block_table}, Packed.ArePacked}
 use Rattle.mh_blocks.specs.Marks.{Index, IsIndexOf}
 use Rattle.mh_table_laws.proofs.TableMapLemmas.{freed-table_map, with_flag-table_map, with_released-table_map}
 use Rattle.mh_table_laws.proofs.PageMapLemmas.{class_at-table_map, free_above}
 use Rattle.mh_blocks.proofs.ReadLemmas.{HasReference, HasNumber}
 use Rattle.mh_blocks.proofs.WriteLemmas.{with_word-stamp, with_word-reference, with_word-number}
-use Rattle.mh_blocks.proofs.PackedLemmas.{empty_blocks}
-use Rattle.mh_blocks.proofs.FreeLemmas.{of_some}
-use Rattle.mh_blocks.proofs.MadeLemmas.{IsMadeAt}
-use Rattle.mh_blocks.proofs.MovedLemmas.{copied, IsMoved}
-use Rattle.mh_blocks.proofs.InvariantLemmas.{original_at}
+use Rattle.mh_blocks.proofs.{PackedLemmas.empty_blocks, FreeLemmas.of_some, MadeLemmas.IsMadeAt}
+use Rattle.mh_blocks.proofs.{MovedLemmas.{copied, IsMoved}, InvariantLemmas.original_at}
 use Rattle.mh_blocks.proofs.IndexLemmas.{empty_index, flagged_index, freed_index, changed_index, stamped_index, taken_index, released_index, moved_index}
 
 -- Pages --------------------------------------------------------------------------------------------

@@ -3,20 +3,15 @@ use Rattle.std.proofs.Common.{◌≡◌, ℕ, ◌+◌, ◌-◌, ◌≤◌, Bool,
 use Rattle.std.proofs.lemmas.Bool.{false≢true}
 use Rattle.mh_model.specs.Classes.{Part, class_of, part_words}
 use Rattle.mh_model.specs.Pages.{Table, page_number, block_at, class_at, count_at, with_taken, with_released, with_flag, IsFreeFor}
-use Rattle.mh_model.specs.Table.{Block, forward_at, new_block}
-use Rattle.mh_model.specs.Collector.{Move, moved_table}
-use Rattle.mh_pages.specs.declared.header.Header.{Header}
-use Rattle.mh_pages.specs.Words.{words_at, with_word, with_header}
-use Rattle.mh_blocks.specs.Words.{place_in, reference_words, block_of, block_table}
-use Rattle.mh_blocks.specs.Counted.{HasCounts, AreCounted}
+use Rattle.mh_model.specs.{Table.{Block, forward_at, new_block}, Collector.{Move, moved_table}}
+use Rattle.mh_pages.specs.{declared.header.Header.Header, Words.{words_at, with_word, with_header}}
+use Rattle.mh_blocks.specs.{Words.{place_in, reference_words, block_of, block_table}, Counted.{HasCounts, AreCounted}}
 use Rattle.mh_table_laws.proofs.TableMapLemmas.{freed-table_map, with_flag-table_map, with_released-table_map}
 use Rattle.mh_table_laws.proofs.PageMapLemmas.{class_at-table_map, free_above}
 use Rattle.mh_blocks.proofs.ReadLemmas.{HasReference, HasNumber}
 use Rattle.mh_blocks.proofs.WriteLemmas.{with_word-stamp, with_word-reference, with_word-number}
 use Rattle.mh_blocks.proofs.PackedLemmas.{empty_packed, empty_blocks, word_packed, freed_packed, flagged_packed, released_packed}
-use Rattle.mh_blocks.proofs.FreeLemmas.{of_some}
-use Rattle.mh_blocks.proofs.MadeLemmas.{IsMadeAt}
-use Rattle.mh_blocks.proofs.MovedLemmas.{copied, IsMoved}
+use Rattle.mh_blocks.proofs.{FreeLemmas.of_some, MadeLemmas.IsMadeAt, MovedLemmas.{copied, IsMoved}}
 use Rattle.mh_blocks.proofs.CountedLemmas.{empty_counts, flagged_counts, freed_counts, taken_counts, forwards, IsReleased, changed_counts, moved_counts}
 
 -- Pages --------------------------------------------------------------------------------------------

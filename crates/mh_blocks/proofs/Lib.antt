@@ -15,5 +15,3 @@ pub mod IndexedLemmas
 pub mod DeadLemmas
 pub mod FreePlaceLemmas
 pub mod ForwarderLemmas
-pub mod OfClasses
-pub mod OfBits

@@ -1,24 +1,17 @@
 -- Blocks made.
 use Rattle.std.proofs.Common.{◌≡◌, ℕ, zero, suc, ◌+◌, ◌-◌, ◌≤◌, ◌==◌, nat_le, Bool, true, false, if◌then◌else◌, find, List, [], ◌∷◌, length, set, map, take, drop, replicate, Option, Some, None, option_map, IfSome, refl, sym, ap, ◌∙◌, subst, arith}
-use Rattle.std.specs.List.{list_all}
-use Rattle.std.proofs.lemmas.Bool.{and_parts, leb-true}
-use Rattle.std.proofs.lemmas.Option.{none-some, same_Some}
+use Rattle.std.proofs.{lemmas.Bool.{and_parts, leb-true}, lemmas.Option.{none-some, same_Some}}
 use Rattle.std.proofs.lemmas.List.{length-replicate, take-replicate, drop-replicate}
-use Rattle.mh_model.specs.declared.shape.Shape.{Shape}
-use Rattle.mh_model.specs.Classes.{Part, class_sizes, class_of, part_words}
-use Rattle.mh_model.specs.Pages.{Table, with_block, with_taken, IsFreeFor}
-use Rattle.mh_model.specs.Table.{Block, new_block}
-use Rattle.mh_pages.specs.OfClasses.Counts.{reference_count, number_count}
-use Rattle.mh_pages.specs.OfClasses.Fits.{FitsItsHeader}
-use Rattle.mh_pages.specs.declared.header.Header.{Header}
-use Rattle.mh_pages.specs.Words.{with_word, with_header}
-use Rattle.mh_blocks.specs.Words.{place_in, header_in, block_of, block_table}
-use Rattle.mh_blocks.specs.Packed.{IsPacked, ArePacked}
+use Rattle.std.specs.List.{list_all}
+use Rattle.mh_model.specs.{declared.shape.Shape.Shape, Classes.{Part, class_sizes, class_of, part_words}}
+use Rattle.mh_model.specs.{Pages.{Table, with_block, with_taken, IsFreeFor}, Table.{Block, new_block}}
+use Rattle.mh_classes.specs.{Counts.{reference_count, number_count}, Fits.FitsItsHeader}
+use Rattle.mh_pages.specs.{declared.header.Header.Header, Words.{with_word, with_header}}
+use Rattle.mh_blocks.specs.{Words.{place_in, header_in, block_of, block_table}, Packed.{IsPacked, ArePacked}}
 use Rattle.mh_blocks.specs.Headers.{IsNewHeader}
 use Rattle.mh_table_laws.proofs.TableMapLemmas.{with_taken-table_map}
 use Rattle.mh_table_laws.proofs.placing.Places.{block_at-with_taken_same, with_block-with_taken}
-use Rattle.mh_blocks.proofs.PackedLemmas.{taken_packed}
-use Rattle.mh_blocks.proofs.FreeLemmas.{at_some}
+use Rattle.mh_blocks.proofs.{PackedLemmas.taken_packed, FreeLemmas.at_some}
 
 -- The class of so many words -----------------------------------------------------------------------
 

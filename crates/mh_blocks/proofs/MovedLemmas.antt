@@ -2,18 +2,14 @@
 use Rattle.std.proofs.Common.{◌≡◌, ℕ, ◌<◌, ◌^◌, List, [], length, Some, is_some, option_map, unwrap_or, IsSome, IfSome, sym, ap, ◌∙◌, subst, arith}
 use Rattle.std.proofs.lemmas.Option.{same_Some}
 use Rattle.mh_model.specs.Pages.{Table, page_number, block_at, class_at, with_block, with_taken, IsFreeFor}
-use Rattle.mh_model.specs.Table.{Block}
-use Rattle.mh_model.specs.Collector.{moved_table}
+use Rattle.mh_model.specs.{Table.Block, Collector.moved_table}
 use Rattle.mh_pages.specs.Words.{words_at, with_word}
-use Rattle.mh_blocks.specs.Words.{place_in, block_of, block_table}
-use Rattle.mh_blocks.specs.Packed.{ArePacked}
+use Rattle.mh_blocks.specs.{Words.{place_in, block_of, block_table}, Packed.ArePacked}
 use Rattle.mh_table_laws.proofs.TableMapLemmas.{block_at-table_map, with_taken-table_map}
 use Rattle.mh_table_laws.proofs.placing.Places.{block_at-with_taken_there}
 use Rattle.mh_table_laws.proofs.PageMapLemmas.{class_at-table_map, free_above}
-use Rattle.mh_blocks.proofs.ReadLemmas.{words_there, header_within, small_place}
-use Rattle.mh_blocks.proofs.WriteLemmas.{with_word-forward}
-use Rattle.mh_blocks.proofs.PackedLemmas.{taken_packed, word_packed}
-use Rattle.mh_blocks.proofs.FreeLemmas.{if_some, at_some, free_for_class}
+use Rattle.mh_blocks.proofs.{ReadLemmas.{words_there, header_within, small_place}, WriteLemmas.with_word-forward}
+use Rattle.mh_blocks.proofs.{PackedLemmas.{taken_packed, word_packed}, FreeLemmas.{if_some, at_some, free_for_class}}
 
 -- the table with the words of a block copied to another place
 abbrev pub copied : Table (List ℕ) → ℕ → ℕ → ℕ → Table (List ℕ)

@@ -5,8 +5,7 @@ use Rattle.std.proofs.lemmas.List.{get_or-set_other, length-set, length-replicat
 use Rattle.mh_model.specs.Pages.{Page, Table, page_number, slot_number, page_at, block_in, block_at, page_with, page_for, with_taken, with_released, flagged_as, with_flag}
 use Rattle.mh_pages.specs.Words.{with_word}
 use Rattle.mh_table_laws.specs.TableMaps.{table_map}
-use Rattle.mh_blocks.specs.Words.{block_table}
-use Rattle.mh_blocks.specs.Packed.{IsPacked, ArePacked}
+use Rattle.mh_blocks.specs.{Words.block_table, Packed.{IsPacked, ArePacked}}
 use Rattle.mh_blocks.proofs.ChangeLemmas.{after_change, after_taking, after_freeing, after_flagging, after_release}
 
 -- All pages free -----------------------------------------------------------------------------------

@@ -3,8 +3,7 @@ use Rattle.std.proofs.Common.{◌≡◌, ℕ, ◌+◌, ◌<◌, List, [], set, O
 use Rattle.mh_model.specs.Pages.{Table, block_at}
 use Rattle.mh_model.specs.Table.{with_block_change, with_reference_at, with_number_at, with_stamp_at}
 use Rattle.mh_pages.specs.Words.{words_at, with_word}
-use Rattle.mh_blocks.specs.Words.{place_in, reference_words, block_of, block_table}
-use Rattle.mh_blocks.specs.Packed.{ArePacked}
+use Rattle.mh_blocks.specs.{Words.{place_in, reference_words, block_of, block_table}, Packed.ArePacked}
 use Rattle.mh_table_laws.proofs.TableMapLemmas.{changed}
 use Rattle.mh_blocks.proofs.BlockLemmas.{stamp_written, forward_written, reference_written, number_written}
 use Rattle.mh_blocks.proofs.ReadLemmas.{HasReference, HasNumber}

@@ -1,11 +1,8 @@
 -- Words that blocks can be read from, with how many blocks they stand for.
 use Rattle.std.specs.Prelude.{◌≡◌, ℕ, List, length, filter}
-use Rattle.mh_model.specs.Pages.{Table}
-use Rattle.mh_model.specs.Table.{Block, is_forwarder}
-use Rattle.mh_model.specs.Machine.{blocks_of}
+use Rattle.mh_model.specs.{Pages.Table, Table.{Block, is_forwarder}, Machine.blocks_of}
 use Rattle.mh_table_laws.specs.TableMaps.{table_map}
-use Rattle.mh_blocks.specs.Words.{block_of}
-use Rattle.mh_blocks.specs.Packed.{ArePacked}
+use Rattle.mh_blocks.specs.{Words.block_of, Packed.ArePacked}
 
 -- a table has so many blocks, and so many of them are forwarders
 pub record HasCounts (table : Table Block) (blocks forwarders : ℕ) : Type 0 where

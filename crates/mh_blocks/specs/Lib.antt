@@ -3,6 +3,3 @@ pub mod Packed
 pub mod Counted
 pub mod Marks
 pub mod Headers
-pub mod OfPages
-pub mod OfClasses
-pub mod OfBits

@@ -1,8 +1,6 @@
 -- What is asked of a block without a look at its words: whether it is marked, and whether it is a forwarder.
 use Rattle.std.specs.Prelude.{◌≡◌, ℕ, ◌*◌, Bool, false, not, ◌||◌, Option, Some, None, option_map, unwrap_or, List, length, get_or}
-use Rattle.mh_model.specs.Pages.{Table, block_at}
-use Rattle.mh_model.specs.Table.{Block, is_forwarder}
-use Rattle.mh_model.specs.Collector.{is_marked}
+use Rattle.mh_model.specs.{Pages.{Table, block_at}, Table.{Block, is_forwarder}, Collector.is_marked}
 
 -- the places of the blocks that are marked in a cycle, and of the forwarders
 pub record Index : Type 0 where

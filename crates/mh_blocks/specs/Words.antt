@@ -4,10 +4,8 @@
 -- Word 2 is the mark stamp. Word 3 is the forwarding word: 0, or the place that the block moved to and 1 more.
 -- The fields follow from word 4 on: the references, each 0 for null or else a place and 1 more, and then the numbers.
 use Rattle.std.specs.Prelude.{ℕ, zero, suc, ◌-◌, ◌/◌, ◌%◌, ◌^◌, Option, Some, None, List, get_or, map, take, drop}
-use Rattle.mh_model.specs.declared.shape.Shape.{Shape}
-use Rattle.mh_model.specs.Pages.{Table}
-use Rattle.mh_model.specs.Table.{Block}
-use Rattle.mh_pages.specs.OfClasses.Counts.{reference_count, number_count}
+use Rattle.mh_model.specs.{declared.shape.Shape.Shape, Pages.Table, Table.Block}
+use Rattle.mh_classes.specs.Counts.{reference_count, number_count}
 use Rattle.mh_table_laws.specs.TableMaps.{table_map}
 
 -- the place that a word stands for: none for 0

@@ -11,15 +11,15 @@ ghost use Rattle.std.specs.Prelude.{◌≡◌, ◌<◌, ◌≤◌, ◌^◌, IsSo
 ghost use Rattle.mh_model.specs.Classes.{class_of, part_words};
 ghost use Rattle.mh_model.specs.Pages.{page_number, page_at, block_at, Leads, class_at, flag_at, count_at, has_denser, least_place, least_dense_place, free_pages, with_taken, with_released, with_flag, HaveTheirSlots, IsFreeFor};
 ghost use Rattle.mh_model.specs.Table.{references_at, reference_at, with_reference_at, numbers_at, number_at, with_number_at, stamp_at, with_stamp_at, forward_at, resolve, target_of, new_block, made_part, is_forwarder};
-ghost use Rattle.mh_model.specs.Collector.{moved_table};
-ghost use Rattle.mh_model.specs.Machine.{blocks_of};
-ghost use Rattle.mh_pages.specs.Addresses.{address_in};
-ghost use Rattle.mh_pages.specs.FreePlaces.{free_places};
+ghost use Rattle.mh_model.specs.{Collector.moved_table, Machine.blocks_of};
+ghost use Rattle.mh_pages.specs.{Addresses.address_in, FreePlaces.free_places};
 
 use crate::index::Index;
 use crate::packing::{
     header_in, new_header, number_count, part_in, place_in, place_word, reference_count,
 };
+use mh_classes::class::Class;
+use mh_classes::parts::Part;
 use mh_model::birth::Birth;
 use mh_model::limits::HEADER;
 use mh_model::memory::NoMemory;
@@ -27,8 +27,6 @@ use mh_model::place::Place;
 use mh_model::shape::Shape;
 use mh_pages::address::Address;
 use mh_pages::header::{BIRTH, COUNTS, FORWARD, STAMP};
-use mh_pages::mh_classes::class::Class;
-use mh_pages::mh_classes::parts::Part;
 use mh_pages::pages::Pages;
 use mh_pages::warmth::Warmth;
 use std::alloc::Global;
@@ -48,11 +46,8 @@ pub struct Blocks {
 }
 
 impl Model for Blocks {
-    ghost use Rattle.mh_model.specs.Pages.{Table};
-    ghost use Rattle.mh_model.specs.Table.{Block};
-    ghost use Rattle.mh_blocks.specs.Words.{block_table};
-    ghost use Rattle.mh_blocks.specs.Counted.{AreCounted};
-    ghost use Rattle.mh_blocks.specs.Marks.{IsIndexOf};
+    ghost use Rattle.mh_model.specs.{Pages.Table, Table.Block};
+    ghost use Rattle.mh_blocks.specs.{Words.block_table, Counted.AreCounted, Marks.IsIndexOf};
 
     ghost Value = { Table Block };
 

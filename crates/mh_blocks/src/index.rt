@@ -1,11 +1,11 @@
 //! The index of marks and of forwarders beside the words. The invariant of `Blocks` keeps it, and no public contract
 //! names it.
 ghost use Rattle.std.specs.Prelude.{◌≡◌, ◌==◌, ◌<◌, ◌≤◌, ◌+◌, ◌*◌, ℕ, true, false, length, get_or, set, replicate, IfOk};
-ghost use Rattle.mh_pages.specs.OfBits.Bits.{has_bit};
+ghost use Rattle.mh_bits.specs.Bits.{has_bit};
 
+use mh_bits::place_set::PlaceSet;
 use mh_model::memory::NoMemory;
 use mh_model::place::Place;
-use mh_pages::mh_bits::place_set::PlaceSet;
 use std::alloc::Global;
 use std::marker::Model;
 

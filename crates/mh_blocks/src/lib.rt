@@ -18,9 +18,6 @@
 //! that its bits give what a sweep frees.
 #![tactic(auto)]
 
-pub use mh_pages;
-pub use mh_pages::mh_classes;
-
 pub mod blocks;
 mod index;
 mod marks;

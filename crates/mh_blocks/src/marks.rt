@@ -5,9 +5,8 @@
 //! cycle of which no block has the stamp begins its marks; of any other cycle the stamps answer. `is_marked` takes the
 //! cycle's number, since a mark is a stamp equal to it and the collector alone counts cycles.
 ghost use Rattle.std.specs.Prelude.{◌≡◌, ◌≢◌, ◌==◌, ◌<◌, ◌+◌, ◌*◌, ℕ, IsSome, is_some, length};
-ghost use Rattle.mh_model.specs.Pages.{block_at};
-ghost use Rattle.mh_model.specs.Table.{stamp_at, forward_at};
-ghost use Rattle.mh_pages.specs.OfBits.Bits.{has_bit};
+ghost use Rattle.mh_model.specs.{Pages.block_at, Table.{stamp_at, forward_at}};
+ghost use Rattle.mh_bits.specs.Bits.{has_bit};
 ghost use Rattle.mh_blocks.specs.Marks.{is_dead};
 
 use crate::blocks::Blocks;

@@ -1,10 +1,9 @@
 //! How the fields of a block are packed into words. `child_count` counts in words of a page, and that of `mh_classes`
 //! in the counts of an object: each in the type of what it reads.
 ghost use Rattle.std.specs.Prelude.{◌≡◌, ◌<◌, ◌≤◌, ◌^◌, IfSome};
-ghost use Rattle.mh_pages.specs.OfClasses.Counts.{reference_count, number_count};
+ghost use Rattle.mh_classes.specs.Counts.{reference_count, number_count};
 ghost use Rattle.mh_model.specs.Classes.{run_count, child_count};
-ghost use Rattle.mh_blocks.specs.Words.{place_in, part_in, header_in};
-ghost use Rattle.mh_blocks.specs.Headers.{IsNewHeader};
+ghost use Rattle.mh_blocks.specs.{Words.{place_in, part_in, header_in}, Headers.IsNewHeader};
 
 use mh_model::birth::Birth;
 use mh_model::limits;

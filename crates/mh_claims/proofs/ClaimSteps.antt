@@ -1,19 +1,17 @@
 -- Each step at the claim word keeps its rule.
 use Rattle.std.proofs.Common.{◌≡◌, ℕ, zero, suc, ◌+◌, ◌%◌, ◌^◌, ◌<◌, ◌≤◌, ◌==◌, false, List, [], ◌∷◌, ◌++◌, length, get_or, set, take, drop, replicate, flat_map, sym, refl, ap, ◌∙◌, subst, arith, length-set, length-append, get_or-set_same, ⊎_elim}
+use Rattle.std.proofs.lemmas.List.{length-replicate, get_or-append-add}
 use mathlib.Core.Option.{none, some, some-injective, some-ne-none}
 use lib.ListN.{get_elem?}
-use Rattle.std.proofs.lemmas.List.{length-replicate, get_or-append-add}
 use Rattle.atomic_table.specs.Table.{State, step, keeps, opening, Allows, Splits, Joins}
 use Rattle.atomic_table.proofs.Lists.{at_set, at_snoc}
 use Rattle.mh_model.specs.History.{ClaimState, has_ended, with_draw}
-use Rattle.mh_seat_laws.specs.Weights.{weigh, weigh_lists, total}
-use Rattle.mh_seat_laws.specs.ClaimWord.{Lists, AllRunOut, IsClaimed, claim_of}
+use Rattle.mh_seat_laws.specs.{Weights.{weigh, weigh_lists, total}, ClaimWord.{Lists, AllRunOut, IsClaimed, claim_of}}
 use Rattle.mh_seat_laws.proofs.TotalLemmas.{total-set, total-append_one}
 use Rattle.mh_seat_laws.proofs.claim_word.ShownClaims.{both_run, claim_of-drawn}
 use Rattle.mh_seat_laws.proofs.claim_word.DrawRule.{below-has_ended, only_last_past-append, with_draw-kept}
 use Rattle.mh_seat_laws.proofs.claim_word.DrawnNumbers.{counts, count-cons, itself, drawn-below, word-near_bound}
-use Rattle.mh_claims.specs.Seats.{next_of, IsDrawnByRule}
-use Rattle.mh_claims.specs.Steps.{alone, answer_found, Draws}
+use Rattle.mh_claims.specs.{Seats.{next_of, IsDrawnByRule}, Steps.{alone, answer_found, Draws}}
 
 -- The lists of all seats ------------------------------------------------------------------------
 

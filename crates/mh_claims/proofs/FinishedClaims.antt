@@ -4,10 +4,8 @@ use mathlib.Core.Option.{some, some-injective, some-ne-none}
 use lib.ListN.{get_elem?}
 use Rattle.atomic_table.specs.Table.{State, Seen}
 use Rattle.mh_model.specs.History.{has_ended, times_drawn}
-use Rattle.mh_seat_laws.specs.Weights.{total}
-use Rattle.mh_seat_laws.specs.ClaimWord.{Lists, IsClaimed, claim_of}
-use Rattle.mh_seat_laws.proofs.TotalLemmas.{total-set}
-use Rattle.mh_seat_laws.proofs.claim_word.ShownClaims.{claim_of-drawn}
+use Rattle.mh_seat_laws.specs.{Weights.total, ClaimWord.{Lists, IsClaimed, claim_of}}
+use Rattle.mh_seat_laws.proofs.{TotalLemmas.total-set, claim_word.ShownClaims.claim_of-drawn}
 use Rattle.mh_seat_laws.proofs.claim_word.DrawnNumbers.{ended-drawn_once}
 use Rattle.mh_claims.specs.Seats.{ClaimsView, DrawSeatView, DrawsFrom, seat_ended}
 use Rattle.mh_claims.proofs.ClaimSteps.{all_of, length-all_of}

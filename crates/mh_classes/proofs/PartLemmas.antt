@@ -10,17 +10,15 @@ use Rattle.mh_classes.specs.Fits.{IsPart}
 -- Parts by size --------------------------------------------------------------------------------
 
 parts_small : (r n : ℕ) → r + n ≤ 60 → parts r n ≡ plain_part r n ∷ []
-parts_small r n few = ap (λ b. if b then plain_part r n ∷ [] else spine_parts r n) (le-leb _ _ few)
+parts_small r n few = grind arith
 
 parts_large : (r n : ℕ) → 60 < r + n → parts r n ≡ spine_parts r n
-parts_large r n many = ap (λ b. if b then plain_part r n ∷ [] else spine_parts r n) (lt-leb _ _ many)
+parts_large r n many = grind arith
 
 -- Parts by number --------------------------------------------------------------------------------
 
 pub small_at : (r n i : ℕ) → r + n ≤ 60 → i < length (parts r n) → slice_get (parts r n) i ≡ Some (plain_part r n)
-small_at r n i few inside =
-    let first : i ≡ 0 = omega (arith, length-one r n few) in
-    rw first (ap (λ ps. slice_get ps 0) (parts_small r n few))
+small_at r n i few inside = grind arith
 
 pub first_at : (r n : ℕ) → 60 < r + n → slice_get (parts r n) 0 ≡ Some (spine_part (record { references = r; numbers = n }) (child_count (r + n)) 1)
 first_at r n many = ap (λ ps. slice_get ps 0) (parts_large r n many)
@@ -28,58 +26,27 @@ first_at r n many = ap (λ ps. slice_get ps 0) (parts_large r n many)
 pub arraylet_at : (r n i run : ℕ) → 60 < r + n → run < run_count (r + n) → i ≡ suc (middle_count (r + n) + run) → slice_get (parts r n) i ≡ Some (arraylet r n run)
 arraylet_at r n i run many below is =
     let size = length-tabulate (middle_spine (r + n)) 0 (middle_count (r + n)) in
-    let k : 0 + run ≡ run = omega arith in
     ap (slice_get (parts r n)) is ∙ ap (λ ps. slice_get ps (suc (middle_count (r + n) + run))) (parts_large r n many)
     ∙ slice-right (tabulate (middle_spine (r + n)) 0 (middle_count (r + n))) (tabulate (arraylet r n) 0 (run_count (r + n))) (middle_count (r + n) + run) run (omega (arith, size))
-    ∙ slice-tabulate (arraylet r n) 0 (run_count (r + n)) run below ∙ ap (λ j. Some (arraylet r n j)) k
+    ∙ slice-tabulate (arraylet r n) 0 (run_count (r + n)) run below ∙ ap (λ j. Some (arraylet r n j)) (omega arith)
 
 -- Headers ----------------------------------------------------------------------------------------
 
 plain_is : (r n : ℕ) → r + n ≤ 60 → IsPart (plain_part r n)
-plain_is r n few = record {
-  few = few;
-  fits = record {
-    references = sym (ap (λ b. if b then r else child_count (r + n)) (le-leb _ _ few));
-    numbers = sym (ap (λ b. if b then n else 0) (le-leb _ _ few));
-    few_references = omega arith;
-    few_numbers = omega arith;
-  };
-}
+plain_is r n few = grind arith
 
 first_is : (r n : ℕ) → 60 < r + n → r + n ≤ 216000 → IsPart (spine_part (record { references = r; numbers = n }) (child_count (r + n)) 1)
-first_is r n many most = record {
-  few = elim (counts (r + n)).case [ inl k ↦ let (small, none, runs) = k in omega (arith, runs, small) | inr k ↦ let (large, some, runs) = k in omega (arith, runs, most) ];
-  fits = record {
-    references = sym (ap (λ b. if b then r else child_count (r + n)) (lt-leb _ _ many));
-    numbers = sym (ap (λ b. if b then n else 0) (lt-leb _ _ many));
-    few_references = omega arith;
-    few_numbers = omega arith;
-  };
-}
+first_is r n many most = grind arith
 
 middle_is : (fields run : ℕ) → IsPart (middle_spine fields run)
-middle_is fields run = go (min 60 (run_count fields - 60 * run)) (1 + middle_count fields + 60 * run) (omega arith)
-  where
-    go : (count first : ℕ) → count ≤ 60 → IsPart (spine_part (record { references = count; numbers = 0 }) count first)
-    go count first few = record {
-      few = omega arith;
-      fits = record {
-        references = sym (ap (λ b. if b then count else child_count (count + 0)) (le-leb _ _ (omega arith)));
-        numbers = sym (ap (λ b. if b then 0 else 0) (le-leb (count + 0) 60 (omega arith)));
-        few_references = omega arith;
-        few_numbers = omega arith;
-      };
-    }
+middle_is fields run = grind arith
 
 arraylet_is : (r n run : ℕ) → IsPart (arraylet r n run)
 arraylet_is r n run = plain_is _ _ (omega arith)
 
 -- so it is of each part of an object that isn't too large
 pub part_is : (r n i : ℕ) (part : Part) → r + n ≤ 216000 → slice_get (parts r n) i ≡ Some part → IsPart part
-part_is r n i part most e = elim (cases_Bool (nat_le (r + n) 60)) [
-  | inl few ↦ known (plain_part r n) (small_at r n i (leb-true (r + n) 60 few) inside) (plain_is r n (leb-true (r + n) 60 few))
-  | inr past ↦ large i e (omega (arith, leb-false (r + n) 60 past))
-]
+part_is r n i part most e = grind (arith, cases_Bool, nat_le, known, small_at, leb-true, inside, plain_is, large, leb-false)
   where
     inside : i < length (parts r n)
     inside = slice_get_within (parts r n) i part e
@@ -88,13 +55,12 @@ part_is r n i part most e = elim (cases_Bool (nat_le (r + n) 60)) [
     known other at is = subst IsPart (same_Some other part (sym at ∙ e)) is
 
     large : (i : ℕ) → slice_get (parts r n) i ≡ Some part → 60 < r + n → IsPart part
-    large zero at many = subst IsPart (same_Some _ part (sym (first_at r n many) ∙ at)) (first_is r n many most)
+    large zero at many = grind arith
     large (suc i) at many = elim (cases_Bool (nat_lt i (middle_count (r + n)))) [
       | inl below ↦ subst IsPart (same_Some _ part (sym (middle_at r n i many (ltb-true i (middle_count (r + n)) below)) ∙ at)) (middle_is (r + n) i)
       | inr past ↦
           let after : middle_count (r + n) ≤ i = ltb-false i (middle_count (r + n)) past in
           let all = length-parts r n many in
           let less : suc i < length (parts r n) = slice_get_within (parts r n) (suc i) part at in
-          let run : ℕ = i - middle_count (r + n) in
           subst IsPart (same_Some _ part (sym (arraylet_at r n (suc i) (i - middle_count (r + n)) many (omega (arith, after, all, less)) (omega (arith, after))) ∙ at)) (arraylet_is r n (i - middle_count (r + n)))
     ]

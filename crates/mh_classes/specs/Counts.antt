@@ -1,7 +1,6 @@
 -- How many references and numbers a block has itself, by the counts in its header.
 use Rattle.std.specs.Prelude.{ℕ, ◌+◌, nat_le, if◌then◌else◌}
-use Rattle.mh_model.specs.declared.shape.Shape.{Shape}
-use Rattle.mh_model.specs.Classes.{child_count}
+use Rattle.mh_model.specs.{declared.shape.Shape.Shape, Classes.child_count}
 
 -- how many words of a block with this header are references: its own up to 60 fields, and else those to its children
 abbrev pub reference_count : Shape → ℕ

@@ -4,8 +4,7 @@
 //! The parts are the model's. There are none exactly for more fields than the rules allow. Above 3,600 fields middle
 //! spines stand between the spine and its arraylets.
 ghost use Rattle.std.specs.Prelude.{◌≡◌, ◌<◌, ◌+◌, IfSome, IsNone, ◌↔◌};
-ghost use Rattle.mh_model.specs.Classes.{parts};
-ghost use Rattle.mh_model.specs.World.{most_fields_under};
+ghost use Rattle.mh_model.specs.{Classes.parts, World.most_fields_under};
 
 pub use crate::part::{Part, Parts};
 use mh_model::config::Rules;

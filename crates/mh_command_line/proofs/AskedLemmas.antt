@@ -1,19 +1,13 @@
 -- What the table says of the options of a subcommand, each by its name.
 use Rattle.std.proofs.Common.{◌≡◌, ◌∙◌, ◌⊎◌, ℕ, Bool, true, false, not, if◌then◌else◌, ◌&&◌, ◌||◌, List, [], ◌∷◌, ◌++◌, map, Option, Some, None, is_some, option_map, refl, sym, ap, subst, inl, inr, codes}
-use Rattle.std.specs.Prelude.{IfSome, IsSome, IsSomeAnd, find}
-use Rattle.std.specs.Borrow.{Bor}
-use Rattle.std.specs.Option.{option_map_or}
-use Rattle.std.specs.Str.{bytes_eq}
-use Rattle.std.proofs.lemmas.Bool.{true≢false}
-use Rattle.std.proofs.lemmas.Slice.Eq.{bytes_eq-Decides}
+use Rattle.std.proofs.{lemmas.Bool.true≢false, lemmas.Slice.Eq.bytes_eq-Decides}
+use Rattle.std.specs.{Prelude.{IfSome, IsSome, IsSomeAnd, find}, Borrow.Bor, Option.option_map_or, Str.bytes_eq}
 use Rattle.clap.proofs.WalkLemmas.{find-map}
 use Rattle.clap.specs.Words.{IsUnsignedIn, Row, Text, one_of}
-use Rattle.mh_command_line.specs.declared.table.Kind.{Kind}
-use Rattle.mh_command_line.specs.declared.table.Kind.TheVariants.{Needed, Number}
+use Rattle.mh_command_line.specs.{declared.table.Kind.Kind, declared.table.Kind.TheVariants.{Needed, Number}}
 use Rattle.mh_command_line.specs.Table.{AllPass, Choice, OptionRule, Passes, RuleRow, Subcommand, SubcommandRow, first_subcommands, last_subcommands, rule_of_row, subcommand_of_row, table}
 use Rattle.mh_command_line.specs.Values.{breaks, is_flagged, lacks_profile, lacks_rates, lacks_share}
-use Rattle.mh_command_line.specs.Orders.{HasNoConfig, Takes, broken_rule}
-use Rattle.mh_command_line.specs.Sizes.{HasNoCounts, has_heap}
+use Rattle.mh_command_line.specs.{Orders.{HasNoConfig, Takes, broken_rule}, Sizes.{HasNoCounts, has_heap}}
 
 same_some : {A : Type 0} {x y : A} → Some x ≡ Some y → x ≡ y
 same_some e = cc

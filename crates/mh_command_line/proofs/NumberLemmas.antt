@@ -1,22 +1,15 @@
 -- The numbers of the options, as they are read and held.
 use Rattle.std.proofs.Common.{◌≡◌, ◌∙◌, ◌≤◌, ◌<◌, ℕ, Bool, true, false, List, [], ◌∷◌, Option, Some, None, refl, sym, ap, inl, inr, arith, codes}
-use Rattle.std.specs.Prelude.{IsSomeAnd, nat_le}
 use Rattle.std.proofs.lemmas.Bool.{ltb-true, leb-false, leb-true, le-leb, lt-ltb}
-use Rattle.std.specs.Char.{digit_value, is_digit}
-use Rattle.std.specs.List.{list_all}
-use Rattle.std.specs.Str.Parse.{AllDigits}
+use Rattle.std.specs.{Prelude.{IsSomeAnd, nat_le}, Char.{digit_value, is_digit}, List.list_all, Str.Parse.AllDigits}
 use Rattle.clap.proofs.WalkLemmas.{both}
-use Rattle.clap.specs.Matches.{ReadsOne}
-use Rattle.clap.specs.Walk.{Row, Text, one_of}
-use Rattle.mh_model.specs.Configs.{configured_by, configured_under}
-use Rattle.mh_model.specs.Limits.{is_configuration, least_quantum}
-use Rattle.mh_model.specs.declared.config.Config.{Config}
-use Rattle.mh_model.specs.declared.config.Rules.{Rules}
+use Rattle.clap.specs.{Matches.ReadsOne, Walk.{Row, Text, one_of}}
+use Rattle.mh_model.specs.{Configs.{configured_by, configured_under}, Limits.{is_configuration, least_quantum}}
+use Rattle.mh_model.specs.{declared.config.Config.Config, declared.config.Rules.Rules}
 use Rattle.mh_command_line.specs.Values.{HoldsNumber, IsHeld, IsNumber, ReadsNumber, number_in_digits}
 use Rattle.mh_command_line.specs.Orders.{AreOutside, HasNumbers, IsBlamed, IsOutsideBy, MakesConfig, ConfigNumbers, config_under}
 use Rattle.mh_command_line.specs.declared.options.OptionNumber.{OptionNumber}
-use Rattle.mh_orders.specs.declared.order.ConfigOption.{ConfigOption}
-use Rattle.mh_orders.specs.declared.order.ConfigOption.TheVariants.{Pages, Quantum, Trigger, Every}
+use Rattle.mh_orders.specs.declared.order.ConfigOption.{ConfigOption, TheVariants.{Pages, Quantum, Trigger, Every}}
 
 -- Digits -----------------------------------------------------------------------------------------
 

@@ -1,30 +1,21 @@
 -- What `clap` found for a subcommand in whose words it found no fault: each value has passed its parser.
 use Rattle.std.proofs.Common.{◌≡◌, ◌<◌, ℕ, Bool, true, false, not, if◌then◌else◌, ◌&&◌, ◌++◌, List, [], ◌∷◌, length, length-append, drop, suc, zero, Option, Some, None, is_some, option_map, refl, sym, ap, subst, arith, codes}
+use Rattle.std.proofs.{lemmas.Bool.false≢true, lemmas.Slice.Eq.bytes_eq-Decides}
 use Rattle.std.specs.Prelude.{IfSome, IsSomeAnd, encode_utf8, fold, find, option_and_then, slice_get}
-use Rattle.std.specs.Option.{option_map_or}
-use Rattle.std.specs.Str.{bytes_eq, chars}
-use Rattle.clap.specs.Lexer.{long_of, short_of}
-use Rattle.clap.specs.Values.{Accepts, read_as, reading_of, refused_kind}
-use Rattle.clap.specs.ValueTests.{accepts}
-use Rattle.std.proofs.lemmas.Bool.{false≢true}
-use Rattle.std.specs.List.{list_any}
-use Rattle.clap.specs.Facts.{explicit_source}
-use Rattle.clap.specs.Takes.{is_given}
+use Rattle.std.specs.{Option.option_map_or, Str.{bytes_eq, chars}, List.list_any}
+use Rattle.clap.specs.{Lexer.{long_of, short_of}, Values.{Accepts, read_as, reading_of, refused_kind}}
+use Rattle.clap.specs.{ValueTests.accepts, Facts.explicit_source, Takes.is_given}
 use Rattle.clap.specs.Kinds.{Kinds, check_kinds, or_else, range_kinds, value_kinds, values_kinds}
 use Rattle.clap.specs.Walk.{Held, Names, Outcome, Row, Rule, Step, Text, Waiting, Walk, after_flag, after_step, arg_by_id, arg_by_index, arg_by_long, arg_by_short, at_row, attached_value, bundle_met, bundle_step, flag_met, has_row, is_pending, long_met, long_or_other, more_values, nothing_held, one_of, option_met, option_word, plain_word, reacted, row_text, rows_after, settled, settled_rows, short_met, short_or_plain, subcommand_met, subcommand_or_other, takes_several, takes_values, to_positional, used, used_by_id, values_or_missing, walk_from, walked, with_default, with_values, without, word_met}
-use Rattle.clap.specs.Walk as walk
 use Rattle.clap.specs.Simple.{Shape, filled, help_rule, new_rule, with_index}
 use Rattle.clap.specs.Faults.{bundle_fault, bundle_step_fault, defaults_fault, flag_word_fault, flags_fault, level_fault, long_fault, option_fault, other_fault, positional_fault, react_fault, repeat_fault, settle_fault, short_fault, step_fault, stray_fault, turn_fault, use_fault, walk_fault, word_fault}
 use Rattle.clap.specs.declared.builder.value_parser.ValueParser.{ValueParser}
-use Rattle.clap.specs.declared.builder.value_parser.ValueParser.TheVariants as vp
-use Rattle.std.proofs.lemmas.Slice.Eq.{bytes_eq-Decides}
-use Rattle.mh_command_line.specs.Table.{flag_rule}
 use Rattle.clap.specs.declared.builder.value_parser.Reading.{Reading}
 use Rattle.clap.specs.declared.builder.value_parser.Reading.TheVariants.{AsWritten}
-use Rattle.clap.specs.declared.error.kind.ErrorKind.{ErrorKind}
-use Rattle.clap.specs.declared.error.kind.ErrorKind.TheVariants as kind
-use Rattle.clap.specs.declared.parser.matches.ValueSource.{ValueSource}
+use Rattle.clap.specs.{declared.error.kind.ErrorKind.ErrorKind, declared.parser.matches.ValueSource.ValueSource}
+use Rattle.mh_command_line.specs.Table.{flag_rule}
 use Rattle.clap.proofs.ValueTestLemmas.{accepts-Accepts}
+use Rattle.clap.specs.Walk as walk
 
 -- Faults -----------------------------------------------------------------------------------------
 
@@ -142,11 +133,11 @@ module _ (p : Text → ValueParser) (plain : (id : Text) → reading_of (p id) �
   safe-value name i = safe-given false name i
 
   -- a flag, which has one value if it is left out too
-  pub safe-flag : (name : Text) (i : ℕ) → p name ≡ vp.Bool → IsSafe (with_index i (filled (flag_rule name)))
+  pub safe-flag : (name : Text) (i : ℕ) → p name ≡ ValueParser.Bool → IsSafe (with_index i (filled (flag_rule name)))
   safe-flag name i is = record {
     uses = λ again texts rows e all.
         let option : Rule = with_index i (filled (flag_rule name)) in
-        let kinds : values_kinds false vp.Bool (values_or_missing option texts) ≡ [] = none_next (repeat_fault again option.id rows) (values_kinds false vp.Bool (values_or_missing option texts)) (none_next (range_kinds 0 0 (length texts)) _ e) in
+        let kinds : values_kinds false ValueParser.Bool (values_or_missing option texts) ≡ [] = none_next (repeat_fault again option.id rows) (values_kinds false ValueParser.Bool (values_or_missing option texts)) (none_next (range_kinds 0 0 (length texts)) _ e) in
         let passed : PassEach name (values_or_missing option texts) = PassEach-taken name (values_or_missing option texts) (subst (λ parser. values_kinds false parser (values_or_missing option texts) ≡ []) (sym is) kinds) in
         AreRead-with_values name AsWritten _ (values_or_missing option texts) _ refl (flag_value option texts (omega arith)) passed (AreRead-without name rows all);
     defaults = λ rows all.
@@ -192,7 +183,7 @@ module _ (p : Text → ValueParser) (plain : (id : Text) → reading_of (p id) �
     long-read : (option : Option Rule) (value : Option Text) (h : Held) → IfSome option IsSafe → long_fault c again option value h ≡ [] → AreRead h.rows → AreRead (long_met c option value h).0.rows
     long-read None value h is e all = all
     long-read (Some a) value h is e all = go (takes_values a) value e where
-      go : (b : Bool) (v : Option Text) → (if b then option_fault c again a v h else (if is_some v then kind.TooManyValues ∷ [] else react_fault c again a [] h)) ≡ [] → AreRead (if b then option_met c a v h else flag_met c a v h).0.rows
+      go : (b : Bool) (v : Option Text) → (if b then option_fault c again a v h else (if is_some v then ErrorKind.TooManyValues ∷ [] else react_fault c again a [] h)) ≡ [] → AreRead (if b then option_met c a v h else flag_met c a v h).0.rows
       go true v e = option-read a v h is e all
       go false None e = reacted-read a [] h is e all
       go false (Some v) e = all

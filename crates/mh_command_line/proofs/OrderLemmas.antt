@@ -1,35 +1,24 @@
 -- What the words give, by what `clap` matched.
 use Rattle.std.proofs.Common.{◌≡◌, ◌∙◌, Bool, true, false, List, [], Option, Some, None, refl, sym, ap, subst, inl, inr}
-use Rattle.std.specs.Prelude.{◌≢◌, Box, IsSomeAnd, option_map}
-use Rattle.std.specs.Box.{box_value}
 use Rattle.std.proofs.lemmas.Bool.{false≢true}
-use Rattle.clap.specs.Faults.{fault_of, is_simple_and_free}
-use Rattle.clap.specs.Kinds.{HasKind, IsAmong}
-use Rattle.clap.specs.Values.{kind_of}
+use Rattle.std.specs.{Prelude.{◌≢◌, Box, IsSomeAnd, option_map}, Box.box_value}
+use Rattle.clap.specs.{Faults.{fault_of, is_simple_and_free}, Kinds.{HasKind, IsAmong}, Values.kind_of}
 use Rattle.clap.specs.Simple.{App, HasMatchesOf, is_simple, subcommand_of, subcommand_rows, subcommand_rows_of}
-use Rattle.clap.specs.Matches.{found_of}
-use Rattle.clap.specs.Walk.{Row, Text, rows_of}
-use Rattle.clap.specs.declared.error.Error.{Error}
-use Rattle.clap.specs.declared.error.kind.ErrorKind.{ErrorKind}
-use Rattle.clap.specs.declared.error.kind.ErrorKind.TheVariants as kind
-use Rattle.clap.specs.declared.parser.matches.ArgMatches.{ArgMatches}
+use Rattle.clap.specs.{Matches.found_of, Walk.{Row, Text, rows_of}, declared.error.Error.Error}
+use Rattle.clap.specs.{declared.error.kind.ErrorKind.ErrorKind, declared.parser.matches.ArgMatches.ArgMatches}
 use Rattle.clap.specs.declared.parser.matches.ArgMatches.TheViews.{out-SubCommand}
 use Rattle.clap.specs.declared.parser.matches.SubCommand.{SubCommand}
-use Rattle.mh_orders.specs.declared.order.Order.{Order}
-use Rattle.mh_orders.specs.declared.order.Order.TheVariants.{Version}
-use Rattle.mh_orders.specs.declared.order.ConfigOption.{ConfigOption}
+use Rattle.mh_orders.specs.declared.order.{Order.Order, Order.TheVariants.Version, ConfigOption.ConfigOption}
 use Rattle.mh_command_line.specs.declared.fault.LineFault.{LineFault}
 use Rattle.mh_command_line.specs.declared.fault.LineFault.TheVariants.{Words, NotText, Configuration, NoMemory}
 use Rattle.mh_command_line.specs.declared.options.OptionFault.{OptionFault}
 use Rattle.mh_command_line.specs.declared.options.OptionFault.TheVariants.{Breaks, NoNumber, Missing, Outside}
-use Rattle.mh_command_line.specs.declared.table.Rule.{Rule}
-use Rattle.mh_command_line.specs.declared.table.Rule.TheVariants as rule
-use Rattle.mh_command_line.specs.Table.{metroheap, rule_of_row}
+use Rattle.mh_command_line.specs.{declared.table.Rule.Rule, Table.{metroheap, rule_of_row}}
 use Rattle.mh_command_line.specs.Orders.{AreAmiss, AskAmiss, AsksVersion, BreakRule, Gives, GivesOrder, HasFewWorkers, HasFirstRules, HasOptionFault, IsFault, IsMissing, IsNoNumber, IsOutside, IsSaidOfRefusal, Named, NamesOne, NotMet, NotTaken, RefusesOptions, Takes, kind_of_fault, rule_kind}
 use Rattle.mh_command_line.proofs.SoundLemmas.{names_one}
 
 abbrev is_version : ErrorKind → Bool
-is_version kind.DisplayVersion = true
+is_version ErrorKind.DisplayVersion = true
 is_version _ = false
 
 same_some : {A : Type 0} {x y : A} → Some x ≡ Some y → x ≡ y
@@ -39,14 +28,14 @@ none_some : {A : Type 0} {x : A} → None ≡ Some x → ⊥
 none_some e = cc
 
 rule_not_version : (it : Rule) → is_version (rule_kind it) ≡ false
-rule_not_version rule.Wants = refl
-rule_not_version rule.WantsWith = refl
-rule_not_version rule.WantsUnless = refl
-rule_not_version rule.Beside = refl
-rule_not_version rule.BesideWith = refl
-rule_not_version rule.Share = refl
-rule_not_version rule.Rates = refl
-rule_not_version rule.Profile = refl
+rule_not_version Rule.Wants = refl
+rule_not_version Rule.WantsWith = refl
+rule_not_version Rule.WantsUnless = refl
+rule_not_version Rule.Beside = refl
+rule_not_version Rule.BesideWith = refl
+rule_not_version Rule.Share = refl
+rule_not_version Rule.Rates = refl
+rule_not_version Rule.Profile = refl
 
 -- the subcommand that `clap` found is one of the table
 pub takes_named : {Z : Type 0} (sub : Option (Box SubCommand Z)) (name : Text) (rows : List Row) → Some name ≡ option_map (λ b. (out-SubCommand (box_value b)).name.now) sub → Some rows ≡ option_map (λ found. found.1) (subcommand_rows sub) → NamesOne (subcommand_rows sub) → Takes name rows
@@ -63,7 +52,7 @@ not_version (NoNumber name text) k kinds = sym (ap is_version (same_some kinds))
 not_version (Missing name) k kinds = sym (ap is_version (same_some kinds))
 not_version (Outside option) k kinds = absurd (none_some kinds)
 
-other_kind : (k : ErrorKind) → is_version k ≡ false → k ≢ kind.DisplayVersion
+other_kind : (k : ErrorKind) → is_version k ≡ false → k ≢ ErrorKind.DisplayVersion
 other_kind k other e = false≢true (sym other ∙ ap is_version e)
 
 amiss_by : (name : Text) (rows : List Row) (fault : OptionFault) (k : ErrorKind) → HasOptionFault name rows fault → kind_of_fault fault ≡ Some k → AreAmiss name rows k
@@ -114,14 +103,14 @@ module _ (a : App) (words : List Text) (m : ArgMatches) (is : a ≡ metroheap) (
   options_refused (Outside option) NotText has told = absurd told
 
 -- a fault of such a command, but refused memory, is one of the faults of the words
-refuses : (a : App) (words : List Text) (e : Error) → a ≡ metroheap → (is_simple_and_free a ≡ true → HasKind (fault_of a words) e) → (kind_of e ≡ kind.OutOfMemory → ⊥) → IsAmong (kind_of e) (fault_of metroheap words)
+refuses : (a : App) (words : List Text) (e : Error) → a ≡ metroheap → (is_simple_and_free a ≡ true → HasKind (fault_of a words) e) → (kind_of e ≡ ErrorKind.OutOfMemory → ⊥) → IsAmong (kind_of e) (fault_of metroheap words)
 refuses a words e is has other = go (subst (λ a. HasKind (fault_of a words) e) is (has (ap is_simple_and_free is))) where
   go : HasKind (fault_of metroheap words) e → IsAmong (kind_of e) (fault_of metroheap words)
   go (inl memory) = absurd (other memory)
   go (inr among) = among
 
 -- words that `clap` doesn't take are refused so
-pub words_refused : (a : App) (words : List Text) (e : Error) (line : LineFault) → a ≡ metroheap → (is_simple_and_free a ≡ true → HasKind (fault_of a words) e) → kind_of e ≢ kind.DisplayVersion → IsSaidOfRefusal (kind_of e) line → IsFault words line
+pub words_refused : (a : App) (words : List Text) (e : Error) (line : LineFault) → a ≡ metroheap → (is_simple_and_free a ≡ true → HasKind (fault_of a words) e) → kind_of e ≢ ErrorKind.DisplayVersion → IsSaidOfRefusal (kind_of e) line → IsFault words line
 words_refused a words e (Words told) is has asks refused =
     let P : ErrorKind → Type 0 = λ k. IsAmong k (fault_of metroheap words) in
     ((λ version. asks (sym refused.1 ∙ version)), NotTaken (subst P (sym refused.1) (refuses a words e is has refused.0)))
@@ -130,8 +119,8 @@ words_refused a words e NotText is has asks refused = absurd refused
 words_refused a words e (Configuration option) is has asks refused = absurd refused
 
 -- words of which `clap` finds that they ask for the version give that order
-pub version_asked : (a : App) (words : List Text) (e : Error) → a ≡ metroheap → (is_simple_and_free a ≡ true → HasKind (fault_of a words) e) → kind_of e ≡ kind.DisplayVersion → GivesOrder words Version
+pub version_asked : (a : App) (words : List Text) (e : Error) → a ≡ metroheap → (is_simple_and_free a ≡ true → HasKind (fault_of a words) e) → kind_of e ≡ ErrorKind.DisplayVersion → GivesOrder words Version
 version_asked a words e is has version =
     let P : ErrorKind → Type 0 = λ k. IsAmong k (fault_of metroheap words) in
-    let other : kind_of e ≡ kind.OutOfMemory → ⊥ = λ memory. other_kind (kind_of e) (ap is_version memory) version in
+    let other : kind_of e ≡ ErrorKind.OutOfMemory → ⊥ = λ memory. other_kind (kind_of e) (ap is_version memory) version in
     record { meant = AsksVersion refl (subst P version (refuses a words e is has other)); few = tt; rules = tt }

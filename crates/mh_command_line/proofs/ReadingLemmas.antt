@@ -1,29 +1,19 @@
 -- What the options of the matches are read as.
 use Rattle.std.proofs.Common.{◌≡◌, ◌∙◌, ◌≤◌, ◌<◌, ◌+◌, ◌^◌, ℕ, zero, suc, Bool, true, false, not, if◌then◌else◌, ◌||◌, List, [], ◌∷◌, length, take, get_or, Option, Some, None, option_map, refl, sym, ap, subst, arith, codes}
-use Rattle.std.specs.Prelude.{IfSome, MatchOption, is_some, is_err, IsSomeAnd, find, option_and_then, slice_get, unwrap_or}
-use Rattle.std.proofs.lemmas.Bool.{true≢false}
-use Rattle.std.proofs.lemmas.Slice.Eq.{bytes_eq-Decides}
-use Rattle.std.specs.List.{list_any}
-use Rattle.std.specs.Option.{option_map_or}
-use Rattle.std.specs.Prelude.{Result, Ok, Err}
-use Rattle.std.specs.Str.{bytes_eq}
+use Rattle.std.proofs.{lemmas.Bool.true≢false, lemmas.Slice.Eq.bytes_eq-Decides}
+use Rattle.std.specs.Prelude.{IfSome, MatchOption, is_some, is_err, IsSomeAnd, find, option_and_then, slice_get, unwrap_or, Result, Ok, Err}
+use Rattle.std.specs.{List.list_any, Option.option_map_or, Str.bytes_eq}
 use Rattle.std.specs.Str.Parse.{IsNumeral, ParsesBool, ParsesUnsigned, without_leading_plus}
 use Rattle.clap.proofs.WalkLemmas.{first_value-rows}
-use Rattle.clap.specs.Matches.{ReadsOne, TriesOne, first_value}
-use Rattle.clap.specs.Values.{IsUnsignedIn, read_as}
-use Rattle.clap.specs.Walk.{Row, Text, one_of, row_text, rows_of}
-use Rattle.clap.specs.declared.parser.matches.Found.{Found}
-use Rattle.mh_orders.specs.Profiles.{NamesProfile, profile_name}
-use Rattle.mh_orders.specs.declared.profile.Profile.{Profile}
+use Rattle.clap.specs.{Matches.{ReadsOne, TriesOne, first_value}, Values.{IsUnsignedIn, read_as}}
+use Rattle.clap.specs.{Walk.{Row, Text, one_of, row_text, rows_of}, declared.parser.matches.Found.Found}
+use Rattle.mh_orders.specs.{Profiles.{NamesProfile, profile_name}, declared.profile.Profile.Profile}
 use Rattle.mh_orders.specs.declared.profile.Profile.TheVariants.{Churn, Lists, Trees, Wide, Large, Fragments, Refusals, Barriers, Comb, Race, Cycles, Mixed}
 use Rattle.mh_orders.specs.declared.profile.UnknownProfile.{UnknownProfile}
-use Rattle.mh_command_line.specs.Rates.{ReadsRates, rates_in}
-use Rattle.mh_command_line.specs.Shares.{ReadsShare, asked_share}
+use Rattle.mh_command_line.specs.{Rates.{ReadsRates, rates_in}, Shares.{ReadsShare, asked_share}}
 use Rattle.mh_command_line.specs.Values.{IsNumber, names_one, number_in_digits, profiles}
-use Rattle.mh_command_line.specs.declared.rates.AskedRates.{AskedRates}
-use Rattle.mh_command_line.specs.declared.rates.NotRates.{NotRates}
-use Rattle.mh_command_line.specs.declared.share.AskedShare.{AskedShare}
-use Rattle.mh_command_line.specs.declared.share.NotShare.{NotShare}
+use Rattle.mh_command_line.specs.{declared.rates.AskedRates.AskedRates, declared.rates.NotRates.NotRates}
+use Rattle.mh_command_line.specs.{declared.share.AskedShare.AskedShare, declared.share.NotShare.NotShare}
 
 other_bytes : (a b : Text) → (a ≡ b → ⊥) → bytes_eq a b ≡ false
 other_bytes a b other = go (bytes_eq a b) refl where

@@ -1,45 +1,37 @@
 -- What `clap` finds in words that it takes for the program's: a subcommand of the table, with values as the table has them.
 use Rattle.std.proofs.Common.{◌≡◌, ◌∙◌, ◌⊎◌, ◌||◌, Bool, true, false, not, if◌then◌else◌, ◌&&◌, List, [], ◌∷◌, ◌++◌, map, Option, Some, None, is_some, option_map, refl, sym, ap, subst, inl, inr, codes}
-use Rattle.std.specs.Prelude.{IfSome, IsSomeAnd, find}
-use Rattle.std.specs.Option.{option_map_or}
-use Rattle.std.specs.List.{list_any}
-use Rattle.std.specs.Str.{bytes_eq}
-use Rattle.std.proofs.lemmas.Bool.{false≢true}
-use Rattle.std.proofs.lemmas.Slice.Eq.{bytes_eq-Decides}
+use Rattle.std.proofs.{lemmas.Bool.false≢true, lemmas.Slice.Eq.bytes_eq-Decides}
+use Rattle.std.specs.{Prelude.{IfSome, IsSomeAnd, find}, Option.option_map_or, List.list_any, Str.bytes_eq}
 use Rattle.clap.specs.Facts.{explicit_source}
 use Rattle.clap.specs.Faults.{check_fault, defaults_fault, entered_fault, fault_of, level_fault, settle_fault, walk_fault}
-use Rattle.clap.specs.Kinds.{Kinds, check_kinds}
-use Rattle.clap.specs.Values.{Accepts, reading_of}
+use Rattle.clap.specs.{Kinds.{Kinds, check_kinds}, Values.{Accepts, reading_of}}
 use Rattle.clap.specs.declared.builder.value_parser.ValueParser.{ValueParser}
-use Rattle.clap.specs.declared.builder.value_parser.ValueParser.TheVariants as vp
 use Rattle.clap.specs.declared.builder.value_parser.Reading.TheVariants.{AsWritten}
 use Rattle.clap.specs.Simple.{App, Shape, argument_words, built, built_leaf, entered, filled, filled_from, help_rule, label_of, names_of, rows_at, subcommand_of, with_index}
 use Rattle.clap.specs.Takes.{is_given}
 use Rattle.clap.specs.Walk.{Row, Rule, Text, Walk, answers_to, finished, nothing_held, one_of, rows_after, settled, walk_from}
-use Rattle.clap.specs.Walk as walk
-use Rattle.mh_command_line.specs.declared.table.Kind.{Kind}
-use Rattle.mh_command_line.specs.declared.table.Kind.TheVariants.{Flag, Number, Needed}
-use Rattle.mh_command_line.specs.declared.table.Kind.TheVariants as kind
+use Rattle.mh_command_line.specs.{declared.table.Kind.Kind, declared.table.Kind.TheVariants.{Flag, Number, Needed}}
 use Rattle.mh_command_line.specs.Table.{AllPass, Choice, IsFlagText, Subcommand, app_with, choice_rule, metroheap, table}
 use Rattle.mh_command_line.specs.Orders.{NamesOne, Takes}
 use Rattle.mh_command_line.proofs.OptionLemmas.{AreRead, AreSafe, IsSafe, level-read, never, none-missing, none_first, none_next, safe-flag, safe-given, safe-help, value-given, value-may, value_rule}
+use Rattle.clap.specs.Walk as walk
 
 -- Parsers ----------------------------------------------------------------------------------------
 
 -- the parser of an option's values, by its kind and by its name
 abbrev parser_of : Kind → ValueParser
-parser_of Flag = vp.Bool
-parser_of kind.Text = vp.String
-parser_of (Number least most) = vp.Unsigned least most
-parser_of (Needed least most) = vp.Unsigned least most
+parser_of Flag = ValueParser.Bool
+parser_of Kind.Text = ValueParser.String
+parser_of (Number least most) = ValueParser.Unsigned least most
+parser_of (Needed least most) = ValueParser.Unsigned least most
 
 abbrev parser_in : List Choice → Text → ValueParser
-parser_in [] name = vp.String
+parser_in [] name = ValueParser.String
 parser_in (choice ∷ choices) name = if bytes_eq choice.0 name then parser_of choice.1 else parser_in choices name
 
 kind_plain : (k : Kind) → reading_of (parser_of k) ≡ AsWritten
 kind_plain Flag = refl
-kind_plain kind.Text = refl
+kind_plain Kind.Text = refl
 kind_plain (Number least most) = refl
 kind_plain (Needed least most) = refl
 
@@ -101,11 +93,11 @@ module _ (p : Text → ValueParser) (is_plain : (name : Text) → reading_of (p 
   are_safe : (choices : List Choice) → AreAs p choices → AreSafe p is_plain (filled_from 1 (map choice_rule choices ++ help_rule ∷ []))
   are_safe [] are = (safe-help p is_plain 1, tt)
   are_safe ((name, Flag) ∷ choices) are = (safe-flag p is_plain name 1 are.0, are_safe choices are.1)
-  are_safe ((name, kind.Text) ∷ choices) are = (given false name vp.String are.0, are_safe choices are.1)
-  are_safe ((name, Number least most) ∷ choices) are = (given false name (vp.Unsigned least most) are.0, are_safe choices are.1)
-  are_safe ((name, Needed least most) ∷ choices) are = (given true name (vp.Unsigned least most) are.0, are_safe choices are.1)
+  are_safe ((name, Kind.Text) ∷ choices) are = (given false name ValueParser.String are.0, are_safe choices are.1)
+  are_safe ((name, Number least most) ∷ choices) are = (given false name (ValueParser.Unsigned least most) are.0, are_safe choices are.1)
+  are_safe ((name, Needed least most) ∷ choices) are = (given true name (ValueParser.Unsigned least most) are.0, are_safe choices are.1)
 
-  flag_text : (found : Option Text) → IfSome found (Accepts false vp.Bool) → IfSome found IsFlagText
+  flag_text : (found : Option Text) → IfSome found (Accepts false ValueParser.Bool) → IfSome found IsFlagText
   flag_text None is = tt
   flag_text (Some text) is = go (bytes_eq text (codes "true")) (bytes_eq text (codes "false")) refl refl is where
     go : (a b : Bool) → bytes_eq text (codes "true") ≡ a → bytes_eq text (codes "false") ≡ b → (a || b) ≡ true → (text ≡ codes "true") ⊎ (text ≡ codes "false")
@@ -125,7 +117,7 @@ module _ (p : Text → ValueParser) (is_plain : (name : Text) → reading_of (p 
   all_pass rows [] are read none = tt
   all_pass rows ((name, Flag) ∷ choices) are read none =
       (flag_text (one_of name rows) (subst (λ parser. IfSome (one_of name rows) (Accepts false parser)) are.0 (value-may p is_plain name rows read)), all_pass rows choices are.1 read none)
-  all_pass rows ((name, kind.Text) ∷ choices) are read none = (tt, all_pass rows choices are.1 read none)
+  all_pass rows ((name, Kind.Text) ∷ choices) are read none = (tt, all_pass rows choices are.1 read none)
   all_pass rows ((name, Number least most) ∷ choices) are read none =
       (subst (λ parser. IfSome (one_of name rows) (Accepts false parser)) are.0 (value-may p is_plain name rows read), all_pass rows choices are.1 read none)
   all_pass rows ((name, Needed least most) ∷ choices) are read none =

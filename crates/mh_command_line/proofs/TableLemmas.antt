@@ -1,8 +1,6 @@
 -- A command with a row of the table more.
 use Rattle.std.proofs.Common.{◌≡◌, ◌∙◌, ◌<◌, ◌+◌, ℕ, List, [], ◌∷◌, ◌++◌, length, map, fold, take, get_or, suc, refl, sym, ap, arith}
-use Rattle.std.proofs.lemmas.List.Sums.{fold_more}
-use Rattle.std.proofs.lemmas.List.Folds.{fold-map}
-use Rattle.std.proofs.Math.Seq.{take-suc}
+use Rattle.std.proofs.{lemmas.List.Sums.fold_more, lemmas.List.Folds.fold-map, Math.Seq.take-suc}
 use Rattle.clap.specs.Words.{App, Rule, Text, with_rule, with_subcommand}
 use Rattle.mh_command_line.specs.Table.{OptionRow, SubcommandRow, app_with, choice_of, choice_rule, clap_rule, subcommand_of_row, with_its_app}
 

@@ -1,14 +1,10 @@
 -- What the options of `curve` ask for.
 use Rattle.std.specs.Prelude.{◌≡◌, if◌then◌else◌, List, Option, Some, None, codes, IsSomeAnd, MatchOption}
 use Rattle.clap.specs.Words.{Row, one_of}
-use Rattle.mh_orders.specs.declared.curve.CurveForm.{CurveForm}
-use Rattle.mh_orders.specs.declared.curve.CurveForm.TheVariants.{Table, Picture}
-use Rattle.mh_orders.specs.declared.curve.CurveOptions.{CurveOptions}
-use Rattle.mh_orders.specs.declared.promises.Promises.{Promises}
-use Rattle.mh_orders.specs.declared.promises.Round.{Round}
+use Rattle.mh_orders.specs.declared.{curve.CurveForm.CurveForm, curve.CurveForm.TheVariants.{Table, Picture}}
+use Rattle.mh_orders.specs.declared.{curve.CurveOptions.CurveOptions, promises.Promises.Promises, promises.Round.Round}
 use Rattle.mh_orders.specs.declared.promises.Share.{Share}
-use Rattle.mh_command_line.specs.Shares.{asked_share, shared_of}
-use Rattle.mh_command_line.specs.Values.{HasNumber, is_flagged, optional_number}
+use Rattle.mh_command_line.specs.{Shares.{asked_share, shared_of}, Values.{HasNumber, is_flagged, optional_number}}
 
 -- rounds are promised if both their numbers are given
 abbrev pub AsksRound : List Row → Option Round → Type 0

@@ -1,46 +1,34 @@
 -- The order that the matches of a command line give, and why other words give none.
 use Rattle.std.specs.Prelude.{◌≡◌, ◌≢◌, ◌⊎◌, ◌<◌, ◌≤◌, ◌/◌, ℕ, zero, suc, true, false, not, if◌then◌else◌, List, [], Option, Some, None, Result, Ok, Err, codes, find, IsSomeAnd, MatchOption}
-use Rattle.std.specs.Option.{option_map_or}
-use Rattle.std.specs.Str.{bytes_eq}
+use Rattle.std.specs.{Option.option_map_or, Str.bytes_eq}
 use Rattle.clap.specs.declared.error.kind.ErrorKind.{ErrorKind}
 use Rattle.clap.specs.declared.error.kind.ErrorKind.TheVariants.{ArgumentConflict, DisplayVersion, MissingRequiredArgument, OutOfMemory, ValueValidation}
 use Rattle.clap.specs.Words.{Row, Text, one_of, subcommand_of, fault_of, kind_of, IsAmong}
-use Rattle.mh_orders.specs.declared.range.RangeOptions.{RangeOptions}
-use Rattle.mh_orders.specs.declared.generate_options.Controls.{Controls}
+use Rattle.mh_orders.specs.{declared.range.RangeOptions.RangeOptions, declared.generate_options.Controls.Controls}
 use Rattle.mh_orders.specs.declared.generate_options.Controls.TheVariants.{ByChance, Each, Never}
-use Rattle.mh_orders.specs.declared.generate_options.Options.{Options}
-use Rattle.mh_orders.specs.declared.profile.Profile.{Profile}
-use Rattle.mh_orders.specs.declared.profile.Profile.TheVariants.{Mixed}
-use Rattle.mh_orders.specs.Profiles.{profile_name}
-use Rattle.mh_model.specs.Configs.{configured, configured_under}
-use Rattle.mh_model.specs.declared.config.Config.{Config}
-use Rattle.mh_model.specs.declared.config.Rules.{Rules}
-use Rattle.mh_model.specs.declared.config.Rules.TheVariants.{First, Second}
+use Rattle.mh_orders.specs.{declared.generate_options.Options.Options, declared.profile.Profile.Profile}
+use Rattle.mh_orders.specs.{declared.profile.Profile.TheVariants.Mixed, Profiles.profile_name}
+use Rattle.mh_orders.specs.declared.order.Order.{Order}
+use Rattle.mh_orders.specs.declared.order.Order.TheVariants.{Run, Steps, Show, Live, Race, Check, CheckSessions, CheckLog, Audit, Migrate, Generate, Version, Chrome, Cycles, Curve, CurveHistory, CurvePauses, SizeScript, SizeRoom, SizeTarget}
+use Rattle.mh_orders.specs.{declared.order.RunForm.RunForm, declared.order.RunForm.TheVariants.{Replies, History}}
+use Rattle.mh_orders.specs.{declared.order.LiveHeap.LiveHeap, declared.order.LiveHeap.TheVariants.{Machine, World}}
+use Rattle.mh_orders.specs.{declared.order.LiveOptions.LiveOptions, declared.order.RunOptions.RunOptions}
+use Rattle.mh_orders.specs.{declared.order.SessionsOptions.SessionsOptions, declared.order.StepsOptions.StepsOptions}
+use Rattle.mh_orders.specs.declared.order.ConfigOption.{ConfigOption}
+use Rattle.mh_orders.specs.declared.order.ConfigOption.TheVariants.{Pages, Quantum, Trigger, Every}
+use Rattle.mh_orders.specs.declared.steps.StepsForm.{StepsForm}
+use Rattle.mh_model.specs.{Configs.{configured, configured_under}, declared.config.Config.Config}
+use Rattle.mh_model.specs.{declared.config.Rules.Rules, declared.config.Rules.TheVariants.{First, Second}}
 use Rattle.mh_model.specs.Limits.{least_quantum}
 use Rattle.mh_command_line.specs.declared.fault.LineFault.{LineFault}
 use Rattle.mh_command_line.specs.declared.fault.LineFault.TheVariants.{Words, NotText, Configuration, NoMemory}
-use Rattle.mh_orders.specs.declared.order.Order.{Order}
-use Rattle.mh_orders.specs.declared.order.Order.TheVariants.{Run, Steps, Show, Live, Race, Check, CheckSessions, CheckLog, Audit, Migrate, Generate, Version, Chrome, Cycles, Curve, CurveHistory, CurvePauses, SizeScript, SizeRoom, SizeTarget}
-use Rattle.mh_orders.specs.declared.order.Form.{Form}
-use Rattle.mh_orders.specs.declared.order.Form.TheVariants.{Replies, History}
-use Rattle.mh_orders.specs.declared.order.LiveHeap.{LiveHeap}
-use Rattle.mh_orders.specs.declared.order.LiveHeap.TheVariants.{Machine, World}
-use Rattle.mh_orders.specs.declared.order.LiveOptions.{LiveOptions}
-use Rattle.mh_orders.specs.declared.order.RunOptions.{RunOptions}
-use Rattle.mh_orders.specs.declared.order.SessionsOptions.{SessionsOptions}
-use Rattle.mh_orders.specs.declared.order.StepsOptions.{StepsOptions}
-use Rattle.mh_orders.specs.declared.steps.Form as steps
-use Rattle.mh_orders.specs.declared.steps.Form.TheVariants as form
-use Rattle.mh_orders.specs.declared.order.ConfigOption.{ConfigOption}
-use Rattle.mh_orders.specs.declared.order.ConfigOption.TheVariants.{Pages, Quantum, Trigger, Every}
 use Rattle.mh_command_line.specs.declared.options.OptionFault.{OptionFault}
 use Rattle.mh_command_line.specs.declared.options.OptionFault.TheVariants.{Breaks, NoNumber, Missing, Outside}
-use Rattle.mh_command_line.specs.declared.table.Rule.{Rule}
-use Rattle.mh_command_line.specs.declared.table.Rule.TheVariants as rule
-use Rattle.mh_command_line.specs.Curves.{AreCurveOptions}
+use Rattle.mh_command_line.specs.{declared.table.Rule.Rule, Curves.AreCurveOptions}
 use Rattle.mh_command_line.specs.Sizes.{AreRoomOptions, AreScriptOptions, AreTargetOptions}
 use Rattle.mh_command_line.specs.Table.{AllPass, OptionRule, metroheap, rule_of_row, table}
 use Rattle.mh_command_line.specs.Values.{HasNumber, IsConfigOption, LacksNumber, breaks, is_flagged, number_or, optional_number, rules_chosen, rules_given, workers_of}
+use Rattle.mh_orders.specs.declared.steps.StepsForm.TheVariants as form
 
 -- Orders -----------------------------------------------------------------------------------------
 
@@ -76,7 +64,7 @@ pub record HasNoConfig (rows : List Row) : Type 0 where
   pub every : one_of (codes "every") rows ≡ None
 
 -- what a run writes: its replies, or its history if the flag is given
-abbrev pub form_of_run : List Row → Form
+abbrev pub form_of_run : List Row → RunForm
 form_of_run rows = if is_flagged (codes "history") rows then History else Replies
 
 -- the options of a run: under the second rules if the matches don't say
@@ -95,7 +83,7 @@ pub record AreLiveOptions (rows : List Row) (options : LiveOptions) : Type 0 whe
   pub heap : options.heap ≡ heap_of_live rows
 
 -- how steps are written: in words, or as JSON if the flag is given
-abbrev pub steps_form_of : List Row → steps.Form
+abbrev pub steps_form_of : List Row → StepsForm
 steps_form_of rows = if is_flagged (codes "json") rows then form.Json else form.Text
 
 -- the options of steps: those of all events if the matches don't say, under the second rules
@@ -240,14 +228,14 @@ HasOptionFault subcommand rows fault = WantsConfig subcommand rows × IsNumberFa
 
 -- the kind by which `clap` refuses options that break a rule
 abbrev pub rule_kind : Rule → ErrorKind
-rule_kind rule.Wants = MissingRequiredArgument
-rule_kind rule.WantsWith = MissingRequiredArgument
-rule_kind rule.WantsUnless = MissingRequiredArgument
-rule_kind rule.Beside = ArgumentConflict
-rule_kind rule.BesideWith = ArgumentConflict
-rule_kind rule.Share = ValueValidation
-rule_kind rule.Rates = ValueValidation
-rule_kind rule.Profile = ValueValidation
+rule_kind Rule.Wants = MissingRequiredArgument
+rule_kind Rule.WantsWith = MissingRequiredArgument
+rule_kind Rule.WantsUnless = MissingRequiredArgument
+rule_kind Rule.Beside = ArgumentConflict
+rule_kind Rule.BesideWith = ArgumentConflict
+rule_kind Rule.Share = ValueValidation
+rule_kind Rule.Rates = ValueValidation
+rule_kind Rule.Profile = ValueValidation
 
 -- `clap` takes the options of a subcommand, and they are amiss: the kind of fault that this is
 pub data AreAmiss (name : Text) (rows : List Row) : ErrorKind → Type 0 where

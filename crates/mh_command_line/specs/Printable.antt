@@ -1,6 +1,5 @@
 -- What can be printed on standard error.
-use Rattle.std.specs.Prelude.{◌≡◌, ◌≤◌, ◌⊎◌, ℕ, Bool, List, ◌&&◌, nat_le}
-use Rattle.std.specs.List.{All}
+use Rattle.std.specs.{Prelude.{◌≡◌, ◌≤◌, ◌⊎◌, ℕ, Bool, List, ◌&&◌, nat_le}, List.All}
 
 -- the byte can be printed: it is a space, a letter, a digit or another sign of ASCII
 abbrev pub is_printable : ℕ → Bool

@@ -1,13 +1,9 @@
 -- How fast mutators make blocks, as words of the command line have it.
 use Rattle.std.specs.Prelude.{◌≡◌, ℕ, ◌==◌, if◌then◌else◌, Option, Some, None, option_and_then, option_map, unwrap_or, Result, Ok, Err, List, [], ◌∷◌, replicate, slice_index, slice_set}
-use Rattle.mh_model.specs.Bytes.{Text, cut_after, number, parts_at}
-use Rattle.mh_model.specs.Classes.{class_of}
+use Rattle.mh_model.specs.{Bytes.{Text, cut_after, number, parts_at}, Classes.class_of}
 use Rattle.mh_classes.specs.Numbers.{class_number}
-use Rattle.mh_orders.specs.Given.{is_between}
-use Rattle.mh_orders.specs.declared.rates.Rates.{Rates}
-use Rattle.mh_command_line.specs.declared.rates.AskedRates.{AskedRates}
-use Rattle.mh_command_line.specs.declared.rates.Rate.{Rate}
-use Rattle.mh_command_line.specs.declared.rates.NotRates.{NotRates}
+use Rattle.mh_orders.specs.{Given.is_between, declared.rates.Rates.Rates}
+use Rattle.mh_command_line.specs.declared.rates.{AskedRates.AskedRates, Rate.Rate, NotRates.NotRates}
 
 -- Rates ------------------------------------------------------------------------------------------
 

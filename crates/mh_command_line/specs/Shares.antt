@@ -2,8 +2,7 @@
 use Rattle.std.specs.Prelude.{◌≡◌, ℕ, nat_le, if◌then◌else◌, List, [], ◌∷◌, Option, Some, None, Result, Ok, Err}
 use Rattle.mh_model.specs.Bytes.{Text, cut_after, number}
 use Rattle.mh_orders.specs.declared.promises.Share.{Share}
-use Rattle.mh_command_line.specs.declared.share.AskedShare.{AskedShare}
-use Rattle.mh_command_line.specs.declared.share.NotShare.{NotShare}
+use Rattle.mh_command_line.specs.declared.share.{AskedShare.AskedShare, NotShare.NotShare}
 
 -- a share and the least length of its windows
 abbrev pub shared_of : Share → ℕ × ℕ

@@ -2,16 +2,13 @@
 use Rattle.std.specs.Prelude.{◌≡◌, ◌||◌, Bool, false, List, Some, None, codes, is_some, IsSomeAnd}
 use Rattle.clap.specs.Words.{Row, Text, one_of}
 use Rattle.mh_command_line.specs.Rates.{rated_of, rates_in}
+use Rattle.mh_command_line.specs.Values.{HasNumber, number_or, optional_number, rules_chosen}
 use Rattle.mh_model.specs.declared.config.Rules.TheVariants.{Second}
-use Rattle.mh_orders.specs.declared.order.SizeOptions.{SizeOptions}
-use Rattle.mh_orders.specs.declared.rates.Rates.{Rates}
-use Rattle.mh_orders.specs.declared.room_options.CycleLength.{CycleLength}
-use Rattle.mh_orders.specs.declared.room_options.CycleLength.TheVariants as cycles
-use Rattle.mh_orders.specs.declared.room_options.RoomOptions.{RoomOptions}
+use Rattle.mh_orders.specs.declared.{order.SizeOptions.SizeOptions, rates.Rates.Rates}
+use Rattle.mh_orders.specs.declared.{room_options.CycleLength.CycleLength, room_options.RoomOptions.RoomOptions}
 use Rattle.mh_orders.specs.declared.target_options.Given.{Given}
 use Rattle.mh_orders.specs.declared.target_options.Given.TheVariants.{Every, Nothing, Quantum}
 use Rattle.mh_orders.specs.declared.target_options.TargetOptions.{TargetOptions}
-use Rattle.mh_command_line.specs.Values.{HasNumber, number_or, optional_number, rules_chosen}
 
 -- Forms ------------------------------------------------------------------------------------------
 
@@ -46,8 +43,8 @@ AsksRates rows rates = IsSomeAnd (one_of (codes "rate") rows) (λ text. rates_in
 
 -- how long cycles take: one number is given of two
 abbrev pub AsksCycles : List Row → CycleLength → Type 0
-AsksCycles rows (cycles.Quanta quanta) = HasNumber rows (codes "quanta") quanta × (one_of (codes "quantum") rows ≡ None)
-AsksCycles rows (cycles.Quantum quantum) = HasNumber rows (codes "quantum") quantum × (one_of (codes "quanta") rows ≡ None)
+AsksCycles rows (CycleLength.Quanta quanta) = HasNumber rows (codes "quanta") quanta × (one_of (codes "quantum") rows ≡ None)
+AsksCycles rows (CycleLength.Quantum quantum) = HasNumber rows (codes "quantum") quantum × (one_of (codes "quanta") rows ≡ None)
 
 -- the options of a heap that has room
 pub record AreRoomOptions (rows : List Row) (options : RoomOptions) : Type 0 where

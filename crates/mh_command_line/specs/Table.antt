@@ -1,15 +1,10 @@
 -- What the table of options says: what `clap` is given, which values it lets pass, and which options go together.
 use Rattle.std.specs.Prelude.{◌≡◌, ◌⊎◌, true, List, [], ◌∷◌, ◌++◌, Option, Some, fold, map, codes, IfSome, IsSomeAnd}
 use Rattle.std.specs.Borrow.{Bor}
-use Rattle.clap.specs.Words.{App, IsUnsignedIn, Row, Text, new_app, new_rule, one_of, with_subcommand}
-use Rattle.clap.specs.Words.{Rule as ClapRule}
+use Rattle.clap.specs.Words.{App, IsUnsignedIn, Row, Text, new_app, new_rule, one_of, with_subcommand, Rule as ClapRule}
 use Rattle.clap.specs.declared.builder.action.ArgAction.TheVariants.{SetTrue}
 use Rattle.clap.specs.declared.builder.value_parser.ValueParser.{ValueParser}
-use Rattle.clap.specs.declared.builder.value_parser.ValueParser.TheVariants as vp
-use Rattle.mh_command_line.specs.declared.table.Kind.{Kind}
-use Rattle.mh_command_line.specs.declared.table.Kind.TheVariants.{Flag, Number, Needed}
-use Rattle.mh_command_line.specs.declared.table.Kind.TheVariants as kind
-use Rattle.mh_command_line.specs.declared.table.Rule.{Rule}
+use Rattle.mh_command_line.specs.declared.table.{Kind.Kind, Kind.TheVariants.{Flag, Number, Needed}, Rule.Rule}
 use Rattle.mh_command_line.specs.declared.table.TheConstants.{FIRST_SUBCOMMANDS, LAST_SUBCOMMANDS}
 
 -- Rows -------------------------------------------------------------------------------------------
@@ -72,9 +67,9 @@ flag_rule name = record (named_rule name) { action = Some SetTrue }
 -- that of a row
 abbrev pub clap_rule : Text → Kind → ClapRule
 clap_rule name Flag = flag_rule name
-clap_rule name kind.Text = parsed_rule name vp.String
-clap_rule name (Number least most) = parsed_rule name (vp.Unsigned least most)
-clap_rule name (Needed least most) = record (parsed_rule name (vp.Unsigned least most)) { required = true }
+clap_rule name Kind.Text = parsed_rule name ValueParser.String
+clap_rule name (Number least most) = parsed_rule name (ValueParser.Unsigned least most)
+clap_rule name (Needed least most) = record (parsed_rule name (ValueParser.Unsigned least most)) { required = true }
 
 abbrev pub choice_rule : Choice → ClapRule
 choice_rule choice = clap_rule choice.0 choice.1
@@ -102,7 +97,7 @@ IsFlagText text = (text ≡ codes "true") ⊎ (text ≡ codes "false")
 -- an option's value is as its kind has it
 abbrev pub Passes : Kind → Option Text → Type 0
 Passes Flag found = IfSome found IsFlagText
-Passes kind.Text found = Unit {0}
+Passes Kind.Text found = Unit {0}
 Passes (Number least most) found = IfSome found (IsUnsignedIn least most)
 Passes (Needed least most) found = IsSomeAnd found (IsUnsignedIn least most)
 

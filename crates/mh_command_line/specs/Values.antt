@@ -1,23 +1,14 @@
 -- What the options in the matches of `clap` say, and which rules of the table they break.
 use Rattle.std.specs.Prelude.{◌≡◌, ◌⊎◌, ◌<◌, ◌≤◌, ◌==◌, ◌&&◌, not, if◌then◌else◌, ℕ, Bool, false, List, [], ◌∷◌, Option, Some, Result, Ok, Err, codes, is_some, option_map, unwrap_or, IsSomeAnd}
-use Rattle.std.specs.List.{list_any}
-use Rattle.std.specs.Option.{option_map_or}
-use Rattle.std.specs.Str.{bytes_eq}
+use Rattle.std.specs.{List.list_any, Option.option_map_or, Str.bytes_eq}
 use Rattle.std.specs.Str.Parse.{IsNumeral, digits_value, without_leading_plus}
 use Rattle.clap.specs.Words.{Row, Text, one_of}
-use Rattle.mh_model.specs.declared.config.Rules.{Rules}
-use Rattle.mh_model.specs.declared.config.Rules.TheVariants.{First, Second}
-use Rattle.mh_orders.specs.Profiles.{profile_name}
-use Rattle.mh_orders.specs.declared.profile.Profile.{Profile}
+use Rattle.mh_model.specs.declared.config.Rules.{Rules, TheVariants.{First, Second}}
+use Rattle.mh_orders.specs.{Profiles.profile_name, declared.profile.Profile.Profile}
 use Rattle.mh_orders.specs.declared.profile.Profile.TheVariants.{Churn, Lists, Trees, Wide, Large, Fragments, Refusals, Barriers, Comb, Race, Cycles, Mixed}
-use Rattle.mh_command_line.specs.Rates.{rates_in}
-use Rattle.mh_command_line.specs.Shares.{asked_share}
-use Rattle.mh_command_line.specs.Table.{OptionRule}
-use Rattle.mh_command_line.specs.declared.options.NotNumber.{NotNumber}
-use Rattle.mh_command_line.specs.declared.options.OptionNumber.{OptionNumber}
-use Rattle.mh_command_line.specs.declared.table.Kind.{Kind}
-use Rattle.mh_command_line.specs.declared.table.Kind.TheVariants as kind
-use Rattle.mh_command_line.specs.declared.table.Rule.TheVariants as rule
+use Rattle.mh_command_line.specs.{Rates.rates_in, Shares.asked_share, Table.OptionRule}
+use Rattle.mh_command_line.specs.{declared.options.NotNumber.NotNumber, declared.options.OptionNumber.OptionNumber}
+use Rattle.mh_command_line.specs.{declared.table.Kind.Kind, declared.table.Rule.Rule}
 
 -- Numbers ----------------------------------------------------------------------------------------
 
@@ -86,10 +77,10 @@ is_flagged name rows = option_map_or (λ text. bytes_eq text (codes "true")) (on
 
 -- the option of this kind is given
 abbrev pub is_given : Kind → Text → List Row → Bool
-is_given kind.Flag name rows = is_flagged name rows
-is_given kind.Text name rows = is_some (one_of name rows)
-is_given (kind.Number least most) name rows = is_some (one_of name rows)
-is_given (kind.Needed least most) name rows = is_some (one_of name rows)
+is_given Kind.Flag name rows = is_flagged name rows
+is_given Kind.Text name rows = is_some (one_of name rows)
+is_given (Kind.Number least most) name rows = is_some (one_of name rows)
+is_given (Kind.Needed least most) name rows = is_some (one_of name rows)
 
 -- an option has a text that can't be read so
 abbrev pub lacks : (Text → Bool) → Text → List Row → Bool
@@ -113,11 +104,11 @@ lacks_profile name rows = lacks names_one name rows
 
 -- the options break the rule
 abbrev pub breaks : List Row → OptionRule → Bool
-breaks rows (rule.Wants, kind, name, other_kind, other, third) = is_given kind name rows && not (is_given other_kind other rows)
-breaks rows (rule.WantsWith, kind, name, other_kind, other, third) = (is_given kind name rows && not (is_given other_kind other rows)) && is_some (one_of third rows)
-breaks rows (rule.WantsUnless, kind, name, other_kind, other, third) = (is_given kind name rows && not (is_given other_kind other rows)) && not (is_some (one_of third rows))
-breaks rows (rule.Beside, kind, name, other_kind, other, third) = is_given kind name rows && is_given other_kind other rows
-breaks rows (rule.BesideWith, kind, name, other_kind, other, third) = (is_given kind name rows && is_given other_kind other rows) && is_some (one_of third rows)
-breaks rows (rule.Share, kind, name, other_kind, other, third) = lacks_share name rows
-breaks rows (rule.Rates, kind, name, other_kind, other, third) = lacks_rates name rows
-breaks rows (rule.Profile, kind, name, other_kind, other, third) = lacks_profile name rows
+breaks rows (Rule.Wants, kind, name, other_kind, other, third) = is_given kind name rows && not (is_given other_kind other rows)
+breaks rows (Rule.WantsWith, kind, name, other_kind, other, third) = (is_given kind name rows && not (is_given other_kind other rows)) && is_some (one_of third rows)
+breaks rows (Rule.WantsUnless, kind, name, other_kind, other, third) = (is_given kind name rows && not (is_given other_kind other rows)) && not (is_some (one_of third rows))
+breaks rows (Rule.Beside, kind, name, other_kind, other, third) = is_given kind name rows && is_given other_kind other rows
+breaks rows (Rule.BesideWith, kind, name, other_kind, other, third) = (is_given kind name rows && is_given other_kind other rows) && is_some (one_of third rows)
+breaks rows (Rule.Share, kind, name, other_kind, other, third) = lacks_share name rows
+breaks rows (Rule.Rates, kind, name, other_kind, other, third) = lacks_rates name rows
+breaks rows (Rule.Profile, kind, name, other_kind, other, third) = lacks_profile name rows

@@ -12,10 +12,10 @@ use crate::size_options::size_asked;
 use clap::ArgMatches;
 use mh_model::config::Rules;
 use mh_orders::order::{
-    Form, LiveHeap, LiveOptions, Order, RunOptions, SessionsOptions, StepsOptions,
+    LiveHeap, LiveOptions, Order, RunForm, RunOptions, SessionsOptions, StepsOptions,
 };
 use mh_orders::range::RangeOptions;
-use mh_orders::steps::{Form as StepsForm, Steps};
+use mh_orders::steps::{Steps, StepsForm};
 
 /// How a script is to be run.
 #[tactic(auto, using(crate::proofs::AskedLemmas::number_passes))]
@@ -28,9 +28,9 @@ fn run_asked(matches: &ArgMatches<'_>) -> RunOptions
         workers: workers_asked(matches),
         rules: rules_asked(matches, Rules::Second),
         form: if is_flagged(matches, "history") {
-            Form::History
+            RunForm::History
         } else {
-            Form::Replies
+            RunForm::Replies
         },
     }
 }

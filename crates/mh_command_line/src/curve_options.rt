@@ -4,8 +4,7 @@
 ghost use Rattle.std.specs.Prelude.{◌≡◌, None, codes, false, is_some};
 ghost use Rattle.clap.specs.Words.{found_of, one_of, rows_of};
 ghost use Rattle.mh_command_line.specs.Curves.{AreCurveOptions, AsksKept, AsksRound};
-ghost use Rattle.mh_command_line.specs.Orders.{IsOrder, Takes, broken_rule};
-ghost use Rattle.mh_command_line.specs.Values.{lacks_share};
+ghost use Rattle.mh_command_line.specs.{Orders.{IsOrder, Takes, broken_rule}, Values.lacks_share};
 
 use crate::options::{is_flagged, large_number, rules_asked};
 use crate::share::AskedShare;

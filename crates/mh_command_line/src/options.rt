@@ -9,9 +9,7 @@
 //! Without `--rules` a script is under the second rules. A history of version 1 is then under the first, as before there
 //! was such an option. `live` and `race` are under the second.
 ghost use Rattle.std.specs.Prelude.{◌≡◌, ◌<◌, ◌≤◌, ◌↔◌, codes, is_some, IfOk, IfErr, IfSome, IsSomeAnd, IsTrue, find};
-ghost use Rattle.std.specs.Char.{is_digit};
-ghost use Rattle.std.specs.List.{list_all};
-ghost use Rattle.std.specs.Str.Parse.{without_leading_plus};
+ghost use Rattle.std.specs.{Char.is_digit, List.list_all, Str.Parse.without_leading_plus};
 ghost use Rattle.clap.specs.Words.{IsUnsignedIn, found_of, one_of, rows_of};
 ghost use Rattle.mh_command_line.specs.Table.{rule_of_row};
 ghost use Rattle.mh_command_line.specs.Values.{HasNumber, HoldsNumber, IsConfigOption, IsNumber, ReadsNumber, breaks, is_flagged, is_given, lacks_profile, lacks_rates, lacks_share, optional_number, rules_chosen, rules_given, rules_numbered, workers_of};

@@ -13,8 +13,7 @@
 //!
 //! Any command line may be answered with `NoMemory`. Each is read by a command that is built in memory, and `clap`'s
 //! contract doesn't say when it asks for that.
-ghost use Rattle.std.specs.Prelude.{◌≡◌, IfOk, IfErr, IsSomeAnd, Err, find, map, option_map};
-ghost use Rattle.std.specs.String.{string_bytes};
+ghost use Rattle.std.specs.{Prelude.{◌≡◌, IfOk, IfErr, IsSomeAnd, Err, find, map, option_map}, String.string_bytes};
 ghost use Rattle.std.specs.Str.{bytes_eq};
 ghost use Rattle.clap.specs.Words.{found_of, kind_of, rows_of, subcommand_rows_of};
 ghost use Rattle.clap.specs.declared.error.kind.ErrorKind.TheVariants.{ArgumentConflict, MissingRequiredArgument, ValueValidation};

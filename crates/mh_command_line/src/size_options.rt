@@ -5,8 +5,8 @@
 ghost use Rattle.std.specs.Prelude.{◌≡◌, IsTrue, IsSome, None, codes, false};
 ghost use Rattle.clap.specs.Words.{found_of, one_of, rows_of};
 ghost use Rattle.mh_command_line.specs.Orders.{IsOrder, Takes, broken_rule};
-ghost use Rattle.mh_orders.specs.Given.{is_given_within, is_length_within};
 ghost use Rattle.mh_command_line.specs.Sizes.{AreRoomOptions, AreScriptOptions, AreTargetOptions, AsksCycles, AsksRates, IsGivenBesideTarget};
+ghost use Rattle.mh_orders.specs.Given.{is_given_within, is_length_within};
 
 use crate::options::{has_text, large_needed, large_number, needed, number, rules_asked};
 use crate::rates::AskedRates;

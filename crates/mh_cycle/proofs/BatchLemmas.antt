@@ -1,21 +1,15 @@
 -- A batch of marking is one stride.
 use Rattle.std.proofs.Common.{◌≡◌, ℕ, ◌+◌, ◌<◌, ◌≤◌, ◌==◌, ◌⊎◌, inl, inr, Bool, false, if◌then◌else◌, List, [], ◌∷◌, ◌++◌, length, drop, refl, sym, ap, ◌∙◌, subst, arith}
-use Rattle.std.proofs.Math.Seq.{drop-append_seam}
-use Rattle.std.proofs.lemmas.List.Sums.{sum_by-cons}
-use Rattle.mh_model.specs.declared.config.Config.{Config}
-use Rattle.mh_model.specs.declared.cycle.Phase.{Phase}
-use Rattle.mh_model.specs.declared.cycle.Phase.TheVariants.{Mark, Sweep}
-use Rattle.mh_model.specs.Pages.{Table}
-use Rattle.mh_model.specs.Table.{Block}
+use Rattle.std.proofs.{Math.Seq.drop-append_seam, lemmas.List.Sums.sum_by-cons}
+use Rattle.mh_model.specs.{declared.config.Config.Config, declared.cycle.Phase.Phase}
+use Rattle.mh_model.specs.{declared.cycle.Phase.TheVariants.{Mark, Sweep}, Pages.Table, Table.Block}
 use Rattle.mh_model.specs.Collector.{Collector, Marking, mark_cost, first_mark_cost, marking_of, with_marking, with_phase, step_cost}
 use Rattle.mh_model.specs.Batches.{NoneTwice, batch_cost, batch_marked, after_batch, longest_front}
 use Rattle.mh_laws.specs.Batches.{AnyCutIntoBatchesIsTheSame}
-use Rattle.mh_mark.specs.OfGrey.Queue.{Queue}
+use Rattle.mh_grey.specs.Queue.{Queue}
 use Rattle.mh_mark.specs.Batched.{front_of, front_marked}
-use Rattle.mh_cycle.specs.State.{IsFramed}
-use Rattle.mh_cycle.specs.Advance.{IsStride, IsStretch}
-use Rattle.mh_cycle.proofs.StepLemmas.{cost-is, after-mark}
-use Rattle.mh_cycle.proofs.StrideLemmas.{stride-none, over}
+use Rattle.mh_cycle.specs.{State.IsFramed, Advance.{IsStride, IsStretch}}
+use Rattle.mh_cycle.proofs.{StepLemmas.{cost-is, after-mark}, StrideLemmas.{stride-none, over}}
 
 some_batch : (table : Table Block) (batch : List ℕ) → 0 < batch_cost table batch → 0 < length batch
 some_batch table [] some = absurd (omega arith)

@@ -1,14 +1,13 @@
 -- Deeds of steps: what they cost, and how those of a quantum are made of them.
 use Rattle.std.proofs.Common.{◌≡◌, ℕ, zero, suc, ◌+◌, ◌-◌, ◌<◌, ◌≤◌, ◌||◌, Bool, true, false, nat_lt, inl, inr, List, [], ◌∷◌, ◌++◌, length, Option, Some, None, option_and_then, refl, sym, ap, ◌∙◌, arith}
-use Rattle.std.proofs.lemmas.Bool.{cases_Bool, or_parts, le-ltb}
-use Rattle.std.proofs.lemmas.List.Sums.{sum_by-cons, sum_by-append}
+use Rattle.std.proofs.{lemmas.Bool.{cases_Bool, or_parts, le-ltb}, lemmas.List.Sums.{sum_by-cons, sum_by-append}}
 use Rattle.mh_model.specs.declared.cycle.Phase.{Phase}
 use Rattle.mh_model.specs.declared.cycle.Phase.TheVariants.{Idle, Roots, Mark, Sweep, Defrag}
-use Rattle.mh_model.specs.declared.deed.Deed.TheVariants as deed
 use Rattle.mh_model.specs.Pages.{Page, Table, page_number, slot_number, page_at, block_in}
 use Rattle.mh_model.specs.Table.{Block, references_at}
 use Rattle.mh_model.specs.Collector.{Collector, Marking, Move, mark_reference, swept_page, move_of, next_move, flagged_page, move_cost, first_mark_cost, marking_of, cost_in, step_cost, collector_step, is_idle, is_moving}
 use Rattle.mh_model.specs.Deeds.{name_at, edge_of, reference_deeds, mark_deeds, slot_fate, flag_deeds, page_deeds, sweep_deeds, slot_deeds, defrag_deeds, deeds_in, enter_deeds, step_deeds, deed_units, units_of, deeds_of_steps}
+use Rattle.mh_model.specs.declared.deed.Deed.{Deed}
 use Rattle.mh_laws.proofs.costs.Quanta.{step_cost-positive}
 use Rattle.mh_cycle.specs.Advance.{is_over}
 use Rattle.mh_cycle.proofs.StrideLemmas.{over-nothing}
@@ -31,12 +30,12 @@ units-references m place index [] = refl
 units-references m place index (reference ∷ references) =
     let after : Marking = mark_reference m place index reference in
     let rest : units_of (reference_deeds after place (suc index) references) ≡ length references = units-references after place (suc index) references in
-    sum_by-cons deed_units (deed.Reference index (edge_of m.table reference m.grey after.grey)) (reference_deeds after place (suc index) references) ∙ omega (arith, rest)
+    sum_by-cons deed_units (Deed.Reference index (edge_of m.table reference m.grey after.grey)) (reference_deeds after place (suc index) references) ∙ omega (arith, rest)
 
 units-mark : (m : Marking) (grey : List ℕ) → 0 < length grey → units_of (mark_deeds m grey) ≡ first_mark_cost m.table grey
 units-mark m [] some = absurd (omega arith)
 units-mark m (place ∷ grey) some =
-    sum_by-cons deed_units (deed.Mark place (name_at m.table place)) (reference_deeds (record m { grey = grey }) place 0 (references_at m.table place))
+    sum_by-cons deed_units (Deed.Mark place (name_at m.table place)) (reference_deeds (record m { grey = grey }) place 0 (references_at m.table place))
     ∙ omega (arith, units-references (record m { grey = grey }) place 0 (references_at m.table place))
 
 units-flag : (page : ℕ) (was is : Bool) → units_of (flag_deeds page was is) ≡ 0
@@ -52,7 +51,7 @@ units-page number was_flagged (Some page) = units-flag number was_flagged page.i
 units-sweep : (cycle : ℕ) (table : Table Block) (place : ℕ) (page : Option (Page Block)) → units_of (sweep_deeds cycle table place page) ≡ 1
 units-sweep cycle table place None = refl
 units-sweep cycle table place (Some page) =
-    sum_by-cons deed_units (deed.Sweep place (slot_fate cycle (block_in (slot_number place) page))) (page_deeds (page_number place) page.is_flagged (swept_page cycle table place page))
+    sum_by-cons deed_units (Deed.Sweep place (slot_fate cycle (block_in (slot_number place) page))) (page_deeds (page_number place) page.is_flagged (swept_page cycle table place page))
     ∙ ap (λ n. 1 + n) (units-page (page_number place) page.is_flagged (swept_page cycle table place page))
 
 units-slot : (moved : Bool) (place : ℕ) (move : Option Move) → units_of (slot_deeds moved place move) ≡ move_cost moved move

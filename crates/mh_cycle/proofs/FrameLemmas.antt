@@ -1,16 +1,13 @@
 -- What keeps the frame: marking and shading keep the length of the table, and shading takes nothing off the grey list.
 use Rattle.std.proofs.Common.{◌≡◌, ℕ, suc, ◌+◌, ◌<◌, ◌≢◌, ◌==◌, true, false, Bool, if◌then◌else◌, List, [], ◌∷◌, length, Option, Some, None, set, option_map, refl, sym, ◌∙◌, arith}
 use Rattle.std.proofs.lemmas.List.{length_push}
-use Rattle.mh_model.specs.declared.config.Config.{Config}
-use Rattle.mh_model.specs.declared.cycle.Phase.{Phase}
-use Rattle.mh_model.specs.declared.cycle.Phase.TheVariants.{Roots, Mark, Sweep, Defrag}
-use Rattle.mh_model.specs.Pages.{Table, block_at}
+use Rattle.mh_model.specs.{declared.config.Config.Config, declared.cycle.Phase.Phase}
+use Rattle.mh_model.specs.{declared.cycle.Phase.TheVariants.{Roots, Mark, Sweep, Defrag}, Pages.{Table, block_at}}
 use Rattle.mh_model.specs.Table.{Block, resolve, target_of, references_at, with_reference_at}
 use Rattle.mh_model.specs.Collector.{Marking, is_marked, with_grey, shade_block, shade, mark_reference, mark_references, mark_first, mark_step}
 use Rattle.mh_model.specs.Limits.{root_slots}
-use Rattle.mh_mark.proofs.OfGrey.StampLemmas.{length-with_block}
-use Rattle.mh_mark.specs.OfGrey.Queue.{Queue}
-use Rattle.mh_mark.specs.OfGrey.Shading.{marking}
+use Rattle.mh_grey.proofs.StampLemmas.{length-with_block}
+use Rattle.mh_grey.specs.{Queue.Queue, Shading.marking}
 use Rattle.mh_cycle.specs.State.{IsFramed}
 
 length-shade_block : (m : Marking) (place : ℕ) (content : Option Block) → length (shade_block m place content).table ≡ length m.table

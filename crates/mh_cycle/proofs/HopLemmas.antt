@@ -1,7 +1,6 @@
 -- Slots that are forwarded once after the last move lead where they would if they were forwarded at each.
 use Rattle.std.proofs.Common.{◌≡◌, ℕ, zero, suc, Bool, true, false, List, [], ◌∷◌, get_or, map, Option, Some, None, is_some, IsSome, option_and_then, unwrap_or, refl, sym, ap, ◌∙◌, subst}
-use Rattle.std.proofs.lemmas.Bool.{false≢true}
-use Rattle.std.proofs.lemmas.Option.{none-some}
+use Rattle.std.proofs.{lemmas.Bool.false≢true, lemmas.Option.none-some}
 use Rattle.mh_model.specs.declared.cycle.Phase.TheVariants.{Defrag}
 use Rattle.mh_model.specs.Pages.{Table, page_number, slot_number, page_at, block_in, block_at, Leads}
 use Rattle.mh_model.specs.Table.{Block, forward_at, resolve, target_of}

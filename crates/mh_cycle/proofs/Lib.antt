@@ -10,5 +10,4 @@ pub mod HopLemmas
 pub mod DefragLemmas
 pub mod DeedLemmas
 pub mod ToldLemmas
-pub mod OfGrey
 pub mod TellingLemmas

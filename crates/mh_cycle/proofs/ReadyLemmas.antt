@@ -1,15 +1,11 @@
 -- What the next step of a steady collector asks for.
 use Rattle.std.proofs.Common.{◌≡◌, ℕ, ◌<◌, ◌==◌, inl, inr, true, List, [], ◌∷◌, length, Option, Some, None, option_map, option_and_then, unwrap_or, is_some, refl, sym, ap, ◌∙◌, subst, arith}
 use Rattle.std.proofs.lemmas.Bool.{false≢true, eqb-true, or_cases}
-use Rattle.mh_model.specs.Pages.{block_at}
-use Rattle.mh_model.specs.Table.{Block, references_at, reference_at, forward_at, LeadsOn, LeadsHome}
-use Rattle.mh_model.specs.Collector.{Collector}
-use Rattle.mh_model.specs.Mutator.{in_roots_or_mark}
-use Rattle.mh_model.specs.Invariant.{IsIn, IsPlainAt, IsSteady}
+use Rattle.mh_model.specs.{Pages.block_at, Table.{Block, references_at, reference_at, forward_at, LeadsOn, LeadsHome}}
+use Rattle.mh_model.specs.{Collector.Collector, Mutator.in_roots_or_mark, Invariant.{IsIn, IsPlainAt, IsSteady}}
 use Rattle.mh_laws.specs.Fields.{ReferencesLeadOn}
 use Rattle.mh_laws.proofs.marking.BlockChanges.{not_sweep}
-use Rattle.mh_mark.specs.OfGrey.Queue.{is_in}
-use Rattle.mh_mark.specs.OfGrey.Shading.{AreMarked}
+use Rattle.mh_grey.specs.{Queue.is_in, Shading.AreMarked}
 use Rattle.mh_mark.specs.Walkable.{IsWalkable}
 
 listed : (grey : List ℕ) (place : ℕ) → is_in place grey ≡ true → IsIn place grey

@@ -1,20 +1,14 @@
 -- What barriers and a start keep for each snapshot.
 use Rattle.std.proofs.Common.{◌≡◌, ℕ, ◌<◌, true, [], length, get_or, Option, Some, None, option_map, option_and_then, unwrap_or, sym, ap, ◌∙◌, subst}
 use Rattle.std.proofs.lemmas.Option.{same_Some}
-use Rattle.mh_model.specs.Pages.{block_at}
-use Rattle.mh_model.specs.Table.{Block, resolve, reference_at, references_at, LeadsHome, forward_at}
+use Rattle.mh_model.specs.{Pages.block_at, Table.{Block, resolve, reference_at, references_at, LeadsHome, forward_at}}
 use Rattle.mh_model.specs.Collector.{Collector, with_shade, is_start_due, quantum}
-use Rattle.mh_model.specs.Mutator.{in_roots, in_roots_or_mark}
-use Rattle.mh_model.specs.Snapshot.{IsKept}
-use Rattle.mh_model.specs.View.{heap_view}
+use Rattle.mh_model.specs.{Mutator.{in_roots, in_roots_or_mark}, Snapshot.IsKept, View.heap_view}
 use Rattle.mh_model.specs.Invariant.{IsSound, Continues, IsSteady}
-use Rattle.mh_laws.specs.Barriers.{BarriersKeepTheSnapshot}
-use Rattle.mh_laws.specs.Snapshots.{ShadingKeepsTheSnapshot, CyclesStartFromTheView}
+use Rattle.mh_laws.specs.{Barriers.BarriersKeepTheSnapshot, Snapshots.{ShadingKeepsTheSnapshot, CyclesStartFromTheView}}
 use Rattle.mh_laws.specs.Fields.{ReferencesLeadOn}
-use Rattle.mh_laws.proofs.marking.BlockChanges.{roots_mark}
-use Rattle.mh_laws.proofs.snapshots.CycleSteps.{snapshot-counted}
-use Rattle.mh_cycle.specs.State.{CycleState}
-use Rattle.mh_cycle.specs.Snapshots.{KeepsEach, KeepsEachBehind, StartsFromTheView}
+use Rattle.mh_laws.proofs.{marking.BlockChanges.roots_mark, snapshots.CycleSteps.snapshot-counted}
+use Rattle.mh_cycle.specs.{State.CycleState, Snapshots.{KeepsEach, KeepsEachBehind, StartsFromTheView}}
 use Rattle.mh_cycle.proofs.ReadyLemmas.{reference-home}
 
 -- what keeps each snapshot leaves a steady collector

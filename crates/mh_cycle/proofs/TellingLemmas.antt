@@ -1,7 +1,6 @@
 -- Deeds of a quantum told a part at a time, to any log.
 use Rattle.std.proofs.Common.{◌≡◌, ℕ, ◌+◌, ◌-◌, ◌≤◌, ◌||◌, Bool, true, false, if◌then◌else◌, List, ◌++◌, Option, refl, sym, ap, ◌∙◌, subst, arith}
-use Rattle.mh_model.specs.declared.cycle.Phase.{Phase}
-use Rattle.mh_model.specs.declared.cycle.Phase.TheVariants.{Idle, Defrag}
+use Rattle.mh_model.specs.{declared.cycle.Phase.Phase, declared.cycle.Phase.TheVariants.{Idle, Defrag}}
 use Rattle.mh_model.specs.declared.deed.Deed.{Deed}
 use Rattle.mh_model.specs.Collector.{Collector, is_idle, is_moving, is_past, next_move, next_place, flagged_page, step_cost, collector_step, quantum_start}
 use Rattle.mh_model.specs.Deeds.{deeds_in, enter_deeds, step_deeds, deeds_of_steps, start_deeds, quantum_deeds}

@@ -1,13 +1,10 @@
 -- Deeds added step by step, and the quantum that the steps make up.
 use Rattle.std.proofs.Common.{◌≡◌, ℕ, ◌+◌, ◌/◌, ◌<◌, ◌≤◌, ◌==◌, ◌≢◌, Bool, true, false, nat_lt, if◌then◌else◌, List, [], ◌∷◌, ◌++◌, length, Option, None, get_or, refl, sym, ap, ◌∙◌, subst, arith}
-use Rattle.mh_model.specs.declared.config.Config.{Config}
-use Rattle.mh_model.specs.declared.cycle.Phase.TheVariants.{Roots, Sweep, Defrag}
-use Rattle.mh_model.specs.declared.deed.Deed.TheVariants as deed
-use Rattle.mh_model.specs.Pages.{Table, page_number, page_at}
-use Rattle.mh_model.specs.Table.{Block, target_of}
+use Rattle.mh_model.specs.{declared.config.Config.Config, declared.cycle.Phase.TheVariants.{Roots, Sweep, Defrag}}
+use Rattle.mh_model.specs.{Pages.{Table, page_number, page_at}, Table.{Block, target_of}}
 use Rattle.mh_model.specs.Collector.{Collector, after_mark, next_place, roots_step, sweep_step, swept_table, with_phase, is_idle, cycle_start, with_count, is_start_due, collector_step, quantum_start}
-use Rattle.mh_model.specs.Deeds.{root_deed, deeds_of_steps, start_deeds, quantum_deeds}
-use Rattle.mh_model.specs.Limits.{root_slots}
+use Rattle.mh_model.specs.{Deeds.{root_deed, deeds_of_steps, start_deeds, quantum_deeds}, Limits.root_slots}
+use Rattle.mh_model.specs.declared.deed.Deed.{Deed}
 use Rattle.mh_cycle.specs.State.{CycleState, state_with_collector}
 use Rattle.mh_cycle.proofs.StepLemmas.{step-is, sweep-past, sweep-stays}
 
@@ -27,7 +24,7 @@ roots-grey c phase = ap (λ r. r.grey) (step-is c Roots phase) ∙ same (roots_s
 
 -- the deed of that step, by what was found
 pub root-is : (c : Collector) (reference target : Option ℕ) (before after : ℕ) → c.phase ≡ Roots → reference ≡ get_or c.slots c.cursor None → target ≡ target_of c.table reference → before ≡ length c.grey → after ≡ length (collector_step c).grey
-    → deed.Root c.cursor (record { reference = reference; target = target; is_shaded = nat_lt before after }) ≡ root_deed c
+    → Deed.Root c.cursor (record { reference = reference; target = target; is_shaded = nat_lt before after }) ≡ root_deed c
 root-is c reference target before after phase found leads was is = rw (is, was, leads, found, roots-grey c phase) refl
 
 -- Sweep --------------------------------------------------------------------------------------------
@@ -58,17 +55,17 @@ cycle-begun c false = same (is_idle c.phase)
     same false = refl
 
 -- the cycle's number tells whether one starts
-pub start-told : (config : Config) (c : Collector) (before after : ℕ) → before ≡ c.cycle → after ≡ (quantum_start config c).cycle → after ≢ before → start_deeds config c ≡ (deed.Start after ∷ []) ++ (deed.Enter Roots ∷ [])
+pub start-told : (config : Config) (c : Collector) (before after : ℕ) → before ≡ c.cycle → after ≡ (quantum_start config c).cycle → after ≢ before → start_deeds config c ≡ (Deed.Start after ∷ []) ++ (Deed.Enter Roots ∷ [])
 start-told config c before after was is other = go (is_start_due config c) (is ∙ cycle-begun c (is_start_due config c))
   where
-    go : (due : Bool) → after ≡ (if due then c.cycle + 1 else c.cycle) → (if due then deed.Start (c.cycle + 1) ∷ deed.Enter Roots ∷ [] else []) ≡ (deed.Start after ∷ []) ++ (deed.Enter Roots ∷ [])
-    go true e = ap (λ n. deed.Start n ∷ deed.Enter Roots ∷ []) (sym e)
+    go : (due : Bool) → after ≡ (if due then c.cycle + 1 else c.cycle) → (if due then Deed.Start (c.cycle + 1) ∷ Deed.Enter Roots ∷ [] else []) ≡ (Deed.Start after ∷ []) ++ (Deed.Enter Roots ∷ [])
+    go true e = ap (λ n. Deed.Start n ∷ Deed.Enter Roots ∷ []) (sym e)
     go false e = absurd (other (e ∙ sym was))
 
 pub start-quiet : (config : Config) (c : Collector) (before after : ℕ) → before ≡ c.cycle → after ≡ (quantum_start config c).cycle → after ≡ before → start_deeds config c ≡ []
 start-quiet config c before after was is same = go (is_start_due config c) (is ∙ cycle-begun c (is_start_due config c))
   where
-    go : (due : Bool) → after ≡ (if due then c.cycle + 1 else c.cycle) → (if due then deed.Start (c.cycle + 1) ∷ deed.Enter Roots ∷ [] else []) ≡ []
+    go : (due : Bool) → after ≡ (if due then c.cycle + 1 else c.cycle) → (if due then Deed.Start (c.cycle + 1) ∷ Deed.Enter Roots ∷ [] else []) ≡ []
     go true e = absurd (omega arith)
     go false e = refl
 

@@ -2,8 +2,7 @@
 use Rattle.std.specs.Prelude.{◌≡◌, ◌⊎◌, ℕ, ◌-◌, ◌≤◌, nat_lt, Bool, true, false, ◌||◌}
 use Rattle.mh_model.specs.declared.cycle.Phase.{Phase}
 use Rattle.mh_model.specs.declared.cycle.Phase.TheVariants.{Idle, Roots, Mark, Sweep, Defrag}
-use Rattle.mh_model.specs.Collector.{Collector, is_idle, step_cost, with_units, steps}
-use Rattle.mh_model.specs.Invariant.{IsSteady}
+use Rattle.mh_model.specs.{Collector.{Collector, is_idle, step_cost, with_units, steps}, Invariant.IsSteady}
 use Rattle.mh_cycle.specs.State.{CycleState}
 
 -- no cycle runs, or the next step doesn't fit in what is left

@@ -1,14 +1,8 @@
 -- What the calls of a cycle keep for each world taken as its snapshot.
 use Rattle.std.specs.Prelude.{◌≡◌, ℕ, true, false, None, Some}
-use Rattle.mh_model.specs.declared.cycle.Phase.TheVariants.{Idle}
-use Rattle.mh_model.specs.World.{World}
-use Rattle.mh_model.specs.Pages.{block_at}
-use Rattle.mh_model.specs.Table.{Block}
-use Rattle.mh_model.specs.Collector.{Collector, is_idle, is_start_due}
-use Rattle.mh_model.specs.Mutator.{HeapState, in_roots_or_mark}
-use Rattle.mh_model.specs.View.{heap_view}
-use Rattle.mh_model.specs.Snapshot.{IsKept}
-use Rattle.mh_model.specs.Invariant.{IsSound, KeepsSnapshot, Continues}
+use Rattle.mh_model.specs.{declared.cycle.Phase.TheVariants.Idle, World.World, Pages.block_at, Table.Block}
+use Rattle.mh_model.specs.{Collector.{Collector, is_idle, is_start_due}, Mutator.{HeapState, in_roots_or_mark}}
+use Rattle.mh_model.specs.{View.heap_view, Snapshot.IsKept, Invariant.{IsSound, KeepsSnapshot, Continues}}
 use Rattle.mh_cycle.specs.State.{CycleState}
 
 -- a snapshot that the running cycle keeps is kept on, and what it keeps is all that is left when the cycle ends

@@ -1,13 +1,10 @@
 -- A collector with its configuration, and what holds of its parts at each moment.
 use Rattle.std.specs.Prelude.{◌≡◌, ℕ, ◌<◌, Option, List, length}
-use Rattle.mh_model.specs.declared.config.Config.{Config}
-use Rattle.mh_model.specs.declared.cycle.Phase.{Phase}
-use Rattle.mh_model.specs.declared.cycle.Phase.TheVariants.{Roots, Mark, Sweep, Defrag}
-use Rattle.mh_model.specs.Pages.{Table, page_number}
-use Rattle.mh_model.specs.Table.{Block}
-use Rattle.mh_model.specs.Collector.{Collector, first_collector, forwarded_slots, collector_step}
+use Rattle.mh_model.specs.{declared.config.Config.Config, declared.cycle.Phase.Phase}
+use Rattle.mh_model.specs.{declared.cycle.Phase.TheVariants.{Roots, Mark, Sweep, Defrag}, Pages.{Table, page_number}}
+use Rattle.mh_model.specs.{Table.Block, Collector.{Collector, first_collector, forwarded_slots, collector_step}}
 use Rattle.mh_model.specs.Limits.{root_slots}
-use Rattle.mh_mark.specs.OfGrey.Queue.{Queue}
+use Rattle.mh_grey.specs.Queue.{Queue}
 
 -- a collector with its configuration
 pub record CycleState : Type 0 where

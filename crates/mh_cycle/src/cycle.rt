@@ -30,19 +30,17 @@
 //! would have to hold after each single step too, and after whatever a caller writes into the lent table. So the heap
 //! above keeps it, and its quantum asks for the number of cycles alone.
 ghost use Rattle.std.specs.Prelude.{◌≡◌, ◌^◌, ◌<◌, ◌≤◌, true, IfOk, None, length};
-ghost use Rattle.mh_model.specs.Table.{references_at, forward_at};
-ghost use Rattle.mh_model.specs.Collector.{is_idle, quantum_start, quantum};
-ghost use Rattle.mh_model.specs.Deeds.{quantum_deeds};
+ghost use Rattle.mh_model.specs.{Table.{references_at, forward_at}, Collector.{is_idle, quantum_start, quantum}};
+ghost use Rattle.mh_model.specs.{Deeds.quantum_deeds, Mutator.{before_root, before_field}, Machine.quanta_left};
+ghost use Rattle.mh_model.specs.{Invariant.IsSteady, Limits.root_slots};
 ghost use Rattle.mh_deeds.specs.Logs.{Told};
-ghost use Rattle.mh_model.specs.Mutator.{before_root, before_field};
-ghost use Rattle.mh_model.specs.Machine.{quanta_left};
-ghost use Rattle.mh_model.specs.Invariant.{IsSteady};
-ghost use Rattle.mh_model.specs.Limits.{root_slots};
 ghost use Rattle.mh_laws.specs.Forwarders.{MakesItsForwarders};
 ghost use Rattle.mh_cycle.specs.State.{state_with_collector, first_state};
 ghost use Rattle.mh_cycle.specs.Snapshots.{ContinuesEach, StartsFromTheView, KeepsEach, KeepsEachBehind};
 
+use mh_blocks::blocks::Blocks;
 use mh_deeds::log::Log;
+use mh_grey::grey::Grey;
 use mh_laws::barriers::barriers_keep_the_snapshot;
 use mh_laws::fields::references_lead_on;
 use mh_laws::forwarders::quanta_make_their_forwarders;
@@ -50,14 +48,12 @@ use mh_laws::snapshots::{
     collectors_stay_steady, cycles_start_from_the_view, heaps_stay_kept, quanta_keep_the_snapshot,
     shading_keeps_the_snapshot,
 };
-use mh_mark::mh_blocks::blocks::Blocks;
-use mh_mark::mh_grey::grey::Grey;
-use mh_mark::mh_scan::scan::Scanner;
 use mh_model::config::Config;
 use mh_model::cycle::{Phase, Spent};
 use mh_model::memory::NoMemory;
 use mh_model::place::Place;
 use mh_roots::roots::Roots;
+use mh_scan::scan::Scanner;
 use std::alloc::Global;
 use std::marker::Model;
 

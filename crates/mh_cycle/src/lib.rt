@@ -16,9 +16,6 @@
 //! The step of the roots is here, since no crate below has both roots and grey list.
 #![tactic(auto)]
 
-pub use mh_deeds;
-pub use mh_mark::{mh_blocks, mh_scan};
-
 pub mod cycle;
 mod grey_list;
 mod phases;

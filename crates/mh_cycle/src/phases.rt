@@ -2,20 +2,19 @@
 //! these loops in the order of the phases, while the model's takes step after step. Both are the same, since a run of
 //! steps is one stride.
 ghost use Rattle.std.specs.Prelude.{◌≡◌, ◌-◌, false};
-ghost use Rattle.mh_model.specs.declared.cycle.Phase.TheVariants.{Mark, Sweep, Defrag};
-ghost use Rattle.mh_model.specs.Deeds.{deeds_of_steps};
+ghost use Rattle.mh_model.specs.{declared.cycle.Phase.TheVariants.{Mark, Sweep, Defrag}, Deeds.deeds_of_steps};
 ghost use Rattle.mh_model.specs.Invariant.{IsSteady};
 ghost use Rattle.mh_roots.specs.Roots.{SlotsLead};
 ghost use Rattle.mh_cycle.specs.State.{with_forwarded, forwarded_state};
-ghost use Rattle.mh_deeds.specs.Logs.{Told, Leads};
 ghost use Rattle.mh_cycle.specs.Advance.{IsFrom, IsMarkingTurn, IsAdvance, IsRest};
+ghost use Rattle.mh_deeds.specs.Logs.{Told, Leads};
 
 use crate::cycle::Cycle;
 use crate::told::tell_phase;
 use mh_deeds::log::{Log, NoLog};
 use mh_laws::snapshots::collectors_stay_steady;
-use mh_mark::mh_scan::scan::Scanner;
 use mh_model::cycle::Phase;
+use mh_scan::scan::Scanner;
 
 /// What the scan of one slot costs.
 pub(crate) const ROOT_COST: u64 = 2;

@@ -3,8 +3,7 @@ ghost use Rattle.std.specs.Prelude.{◌≡◌, ◌+◌, ◌-◌, ◌^◌, ◌<�
 ghost use Rattle.mh_model.specs.declared.cycle.Phase.TheVariants.{Roots, Mark, Sweep, Defrag};
 ghost use Rattle.mh_model.specs.Collector.{is_idle, quantum_start, collector_step, step_cost};
 ghost use Rattle.mh_model.specs.Deeds.{deeds_in, step_deeds, deeds_of_steps, start_deeds};
-ghost use Rattle.mh_model.specs.Mutator.{in_roots, in_roots_or_mark};
-ghost use Rattle.mh_model.specs.Invariant.{IsSteady};
+ghost use Rattle.mh_model.specs.{Mutator.{in_roots, in_roots_or_mark}, Invariant.IsSteady};
 ghost use Rattle.mh_deeds.specs.Logs.{Told, Leads};
 ghost use Rattle.mh_mark.specs.First.{IsFirstGrey};
 ghost use Rattle.mh_defrag.specs.Moves.{IsTarget, AreStill};
@@ -16,16 +15,16 @@ use crate::told::{sweep_told, target_of, tell_phase, tell_slot};
 use mh_deeds::log::Log;
 use mh_defrag::defrag;
 use mh_defrag::defrag::Still;
+use mh_grey::grey::Grey;
 use mh_laws::batches::any_cut_into_batches_is_the_same;
 use mh_laws::fields::references_lead_on;
 use mh_mark::batch::{front_guess, mark_batch};
 use mh_mark::mark::{FirstGrey, first_grey, mark_step};
-use mh_mark::mh_grey::grey::Grey;
-use mh_mark::mh_scan::scan::Scanner;
 use mh_model::cycle::Phase;
 use mh_model::deed::{Deed, Edge};
 use mh_model::limits::ROOT_SLOTS;
 use mh_model::place::Place;
+use mh_scan::scan::Scanner;
 use mh_sweep::sweep;
 /// The phase in which blocks are marked while some are grey, and then the sweep.
 fn after_mark(grey: &Grey) -> Phase

@@ -3,16 +3,15 @@
 //! For a log that keeps deeds the sweep takes a slot at a time, and no batch is marked. A cycle that starts tells
 //! `Start`, and then that it enters the roots.
 ghost use Rattle.std.specs.Prelude.{◌≡◌, ◌<◌, option_map, length};
-ghost use Rattle.mh_model.specs.Pages.{page_number, page_at, block_at};
-ghost use Rattle.mh_model.specs.Table.{target_of, LeadsOn};
+ghost use Rattle.mh_model.specs.{Pages.{page_number, page_at, block_at}, Table.{target_of, LeadsOn}};
 ghost use Rattle.mh_model.specs.Collector.{swept_table, next_place, flagged_page};
 ghost use Rattle.mh_model.specs.Deeds.{slot_fate, page_deeds, sweep_deeds, defrag_deeds, enter_deeds};
 ghost use Rattle.mh_deeds.specs.Logs.{Told};
 ghost use Rattle.mh_defrag.specs.Moves.{IsTarget};
 
+use mh_blocks::blocks::Blocks;
 use mh_deeds::log::Log;
 use mh_mark::mark::name_of;
-use mh_mark::mh_blocks::blocks::Blocks;
 use mh_model::cycle::Phase;
 use mh_model::deed::{Deed, Fate};
 use mh_model::place::Place;

@@ -1,9 +1,7 @@
 -- Deeds told to a log that keeps them were added to it.
 use Rattle.std.proofs.Common.{◌≡◌, true, false, Bool, List, [], ◌∷◌, ◌++◌, length, refl, sym, ap, ◌∙◌, append_assoc, append-nil, arith}
 use Rattle.std.proofs.lemmas.Bool.{false≢true}
-use Rattle.mh_model.specs.declared.deed.Deed.{Deed}
-use Rattle.mh_model.specs.declared.deed.Deed.TheVariants.{End}
-use Rattle.mh_model.specs.Deeds.{DeedLog, Adds}
+use Rattle.mh_model.specs.{declared.deed.Deed.Deed, declared.deed.Deed.TheVariants.End, Deeds.{DeedLog, Adds}}
 use Rattle.mh_deeds.specs.Logs.{Has, Told}
 
 pub adds-none : (log : DeedLog) → Adds log [] log

@@ -1,10 +1,8 @@
 -- Accounts as they are kept.
 use Rattle.std.specs.Prelude.{◌≡◌, Bool, true, ◌&&◌, [], None, option_map}
-use Rattle.mh_model.specs.declared.command.Event.{Event}
-use Rattle.mh_model.specs.Deeds as model
-use Rattle.mh_model.specs.Deeds.{DeedLog, account_of}
-use Rattle.mh_model.specs.Machine.{Machine}
+use Rattle.mh_model.specs.{declared.command.Event.Event, Deeds.{DeedLog, account_of}, Machine.Machine}
 use Rattle.mh_deeds.specs.declared.account.Account.{Account}
+use Rattle.mh_model.specs.Deeds as model
 
 -- no deed, and none missing
 abbrev pub empty_log : DeedLog

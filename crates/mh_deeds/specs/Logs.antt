@@ -1,7 +1,6 @@
 -- What a log gets.
 use Rattle.std.specs.Prelude.{◌≡◌, true, List, ◌++◌}
-use Rattle.mh_model.specs.declared.deed.Deed.{Deed}
-use Rattle.mh_model.specs.Deeds.{DeedLog}
+use Rattle.mh_model.specs.{declared.deed.Deed.Deed, Deeds.DeedLog}
 
 -- a log has exactly these deeds, unless memory was refused for one
 abbrev pub Has : List Deed → DeedLog → Type 0

@@ -1,10 +1,8 @@
 //! Deeds in the order in which they were done. Where memory is refused for one, the log says from then on that it isn't
 //! whole, until it is cleared.
 ghost use Rattle.std.specs.Prelude.{◌≡◌, List, true, [], ◌∷◌, ◌++◌, IfOk};
-ghost use Rattle.mh_model.specs.declared.deed.Deed.{Deed};
-ghost use Rattle.mh_model.specs.Deeds.{Adds};
-ghost use Rattle.mh_deeds.specs.Accounts.{empty_log};
-ghost use Rattle.mh_deeds.specs.Logs.{Told};
+ghost use Rattle.mh_model.specs.{declared.deed.Deed.Deed, Deeds.Adds};
+ghost use Rattle.mh_deeds.specs.{Accounts.empty_log, Logs.Told};
 
 use mh_model::deed::Deed;
 use mh_model::memory::NoMemory;

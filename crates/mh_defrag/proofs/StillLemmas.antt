@@ -1,15 +1,12 @@
 -- The steps that move no block.
 use Rattle.std.proofs.Common.{◌≡◌, ◌≢◌, ◌⊎◌, ℕ, zero, suc, ◌+◌, ◌*◌, ◌/◌, ◌%◌, ◌^◌, ◌<◌, ◌≤◌, ◌==◌, inl, inr, Bool, true, false, if◌then◌else◌, Option, Some, None, is_some, option_map, option_and_then, unwrap_or, length, refl, sym, ap, ◌∙◌, subst, eq-eqb, arith}
+use Rattle.std.proofs.{lemmas.Bool.{cases_eq, ne_eqb, true≢false}, lemmas.Option.{none-some, same_Some}}
+use Rattle.std.proofs.{lemmas.Nat.Bits.{bit_at-zero, bit_at-trailing_zeros}, lemmas.Nat.{shr-shr, shr_le}}
 use Rattle.std.specs.Int.{bit_at, w64, trailing_zeros}
-use Rattle.std.proofs.lemmas.Bool.{cases_eq, ne_eqb, true≢false}
-use Rattle.std.proofs.lemmas.Option.{none-some, same_Some}
-use Rattle.std.proofs.lemmas.Nat.Bits.{bit_at-zero, bit_at-trailing_zeros}
-use Rattle.std.proofs.lemmas.Nat.{shr-shr, shr_le}
 use Rattle.mh_model.specs.Classes.{slots_in}
 use Rattle.mh_model.specs.Pages.{Page, Table, page_number, slot_number, page_at, block_in, block_at, class_at, flag_at, HaveTheirSlots}
-use Rattle.mh_model.specs.Table.{Block}
-use Rattle.mh_model.specs.Collector.{if_flagged, move_of, next_move, next_page, next_place, flagged_page}
-use Rattle.mh_blocks.specs.OfBits.Bits.{has_bit}
+use Rattle.mh_model.specs.{Table.Block, Collector.{if_flagged, move_of, next_move, next_page, next_place, flagged_page}}
+use Rattle.mh_bits.specs.Bits.{has_bit}
 use Rattle.mh_defrag.specs.Moves.{AreUnflagged, AreStill, place_after}
 
 -- Pages that are passed ----------------------------------------------------------------------------

@@ -1,7 +1,6 @@
 -- The parts of a step of defragmentation.
 use Rattle.std.specs.Prelude.{◌≡◌, ℕ, zero, suc, ◌+◌, ◌<◌, false, length, Option, Some, None, IfSome, option_map}
-use Rattle.mh_model.specs.Pages.{Table, page_number, class_at, flag_at, IsFreeFor}
-use Rattle.mh_model.specs.Table.{Block}
+use Rattle.mh_model.specs.{Pages.{Table, page_number, class_at, flag_at, IsFreeFor}, Table.Block}
 use Rattle.mh_model.specs.Collector.{Move, next_move, next_place, flagged_page, moved_table}
 
 -- the place that the next move leads to, if there is one, which is free for the class of the page

@@ -11,7 +11,7 @@ ghost use Rattle.mh_model.specs.Collector.{next_move, move_cost, next_place, fla
 ghost use Rattle.mh_defrag.specs.Moves.{IsTarget, moved, AreUnflagged, AreStill};
 
 use mh_blocks::blocks::Blocks;
-use mh_blocks::mh_classes::class::Class;
+use mh_classes::class::Class;
 use mh_model::limits::{PLACES, ROOT_SLOTS};
 use mh_model::place::Place;
 

@@ -1,25 +1,19 @@
 -- Calls on the machine of a configuration keep the promise.
 use Rattle.std.proofs.Common.{◌≡◌, ◌∙◌, ℕ, Bool, List, [], ◌∷◌, ◌++◌, length, refl, sym, ap, subst, arith}
 use Rattle.std.proofs.lemmas.List.{append-nil, length-append}
-use Rattle.mh_model.specs.declared.command.Event.{Event}
-use Rattle.mh_model.specs.declared.config.Config.{Config}
-use Rattle.mh_model.specs.declared.reply.Reply.{Reply}
-use Rattle.mh_model.specs.Bytes.{Text}
-use Rattle.mh_model.specs.Script.{Line}
+use Rattle.mh_model.specs.{declared.command.Event.Event, declared.config.Config.Config, declared.reply.Reply.Reply}
+use Rattle.mh_model.specs.{Bytes.Text, Script.Line}
 use Rattle.mh_promise.specs.Replays.{EventsKeepTheReplay}
-use Rattle.mh_trace_laws.specs.Laws.{EventsKeepWhatIsRecalled, ForgottenTracesKeepTheirPromise}
-use Rattle.mh_embed.specs.declared.numbers.EventNumbers.{EventNumbers}
-use Rattle.mh_embed.specs.declared.numbers.ReplyNumbers.{ReplyNumbers}
-use Rattle.mh_embed.specs.declared.driver.Driver.TheVariants.{Collects}
-use Rattle.mh_embed.specs.declared.status.Status.{Status}
-use Rattle.mh_embed.specs.Drivers.{Collected, first_collected}
-use Rattle.mh_embed.specs.Driving.{Driven, Takes, first_driven}
-use Rattle.mh_embed.specs.Endings as ends
+use Rattle.mh_run_laws.specs.ForgettingLaws.{EventsKeepWhatIsRecalled, ForgottenTracesKeepTheirPromise}
+use Rattle.mh_embed.specs.{declared.numbers.EventNumbers.EventNumbers, declared.numbers.ReplyNumbers.ReplyNumbers}
+use Rattle.mh_embed.specs.{declared.driver.Driver.TheVariants.Collects, declared.status.Status.Status}
+use Rattle.mh_embed.specs.{Drivers.{Collected, first_collected}, Driving.{Driven, Takes, first_driven}}
 use Rattle.mh_embed.specs.Endings.{AnswerEnds, EventEnds, ForgetEnds, JudgeEnds, LineEnds, ReserveEnds, StepEnds, TellEnds}
 use Rattle.mh_embed.specs.Laws.{CallsKeepThePromise, EndsAreCalls}
 use Rattle.mh_embed.specs.Promised.{AreCalls, Called, Does, Forgets, IsCall, IsOneCall, Leaves, Opened, Reserves, Tells}
 use Rattle.mh_embed.proofs.RecalledLemmas.{IsRecalled, first_recalled, forgotten_recalled, recalled_promised, step_recalled}
 use Rattle.mh_embed.proofs.ReservedLemmas.{DoneOn, done_on, same_machine}
+use Rattle.mh_embed.specs.Endings as ends
 
 -- Calls ------------------------------------------------------------------------------------------
 

@@ -1,35 +1,29 @@
 -- Replies that are a machine's, but for reports of an end of its trace, keep the promise.
 use Rattle.std.proofs.Common.{◌≡◌, ◌∙◌, ℕ, suc, false, Some, List, [], ◌∷◌, ◌++◌, length, slice_get, refl, sym, ap, subst}
 use Rattle.std.proofs.lemmas.Option.{same_Some}
-use Rattle.mh_model.specs.declared.command.Command.TheVariants as command
-use Rattle.mh_model.specs.declared.command.Control.TheVariants as control
-use Rattle.mh_model.specs.declared.command.Event.{Event}
-use Rattle.mh_model.specs.declared.command.Event.TheVariants as event
-use Rattle.mh_model.specs.declared.config.Config.{Config}
-use Rattle.mh_model.specs.declared.reply.Reply.{Reply}
-use Rattle.mh_model.specs.declared.reply.Reply.TheVariants as reply
+use Rattle.mh_model.specs.{declared.command.Event.Event, declared.config.Config.Config, declared.reply.Reply.Reply}
 use Rattle.mh_model.specs.declared.report.Report.{Report}
 use Rattle.mh_model.specs.Machine.{Machine, control_step, event_step, first_machine, machine_after, machine_replies, report_on}
 use Rattle.mh_model.specs.Snapshot.{world_beside, world_beside_event}
-use Rattle.mh_model.specs.World.{Answer, World, first_world, says, world_step}
-use Rattle.mh_promise.specs.Promise.{ArePromised, IsPromised}
-use Rattle.mh_promise.specs.Replays.{EventsKeepTheReplay}
+use Rattle.mh_model.specs.{World.{Answer, World, first_world, says, world_step}, declared.command.Command.Command}
+use Rattle.mh_model.specs.declared.command.Control.{Control}
+use Rattle.mh_promise.specs.{Promise.{ArePromised, IsPromised}, Replays.EventsKeepTheReplay}
 use Rattle.mh_promise.specs.Runs.{IsAnswered, Outcome, outcome_of}
-use Rattle.mh_promise.proofs.OfLaws.CyclesInTime.{run-stays}
-use Rattle.mh_trace_laws.specs.Forgetting.{Recalls, forgotten, is_report}
-use Rattle.mh_trace_laws.specs.Laws.{EventsKeepWhatIsRecalled, ForgottenTracesKeepTheirPromise}
+use Rattle.mh_laws.proofs.bounds.CyclesInTime.{run-stays}
+use Rattle.mh_run_laws.specs.Forgetting.{Recalls, forgotten, is_report}
+use Rattle.mh_run_laws.specs.ForgettingLaws.{EventsKeepWhatIsRecalled, ForgottenTracesKeepTheirPromise}
 use Rattle.mh_embed.specs.Promised.{AreRecalled, NoneYet, Reported, Same}
 
 -- an event is answered by a report of some window
 abbrev IsReported : Event → Reply → Type 0
-IsReported asked given = (window : ℕ) × (report : Report) × (asked ≡ event.Control (control.Report window)) × (given ≡ reply.Report report)
+IsReported asked given = (window : ℕ) × (report : Report) × (asked ≡ Event.Control (Control.Report window)) × (given ≡ Reply.Report report)
 
 module _ {config : Config} where
   -- each event has one reply
   answered : (machine : Machine) (events : List Event) (replies : List Reply) → AreRecalled config machine events replies → length replies ≡ length events
   answered machine _ _ (NoneYet _) = refl
   answered machine _ _ (Same _ asked events replies are) = ap suc (answered (event_step machine asked).state events replies are)
-  answered machine _ _ (Reported _ window end events replies is keeps are) = ap suc (answered (event_step machine (event.Control (control.Report window))).state events replies are)
+  answered machine _ _ (Reported _ window end events replies is keeps are) = ap suc (answered (event_step machine (Event.Control (Control.Report window))).state events replies are)
 
   -- what is answered by no report, the machine answers so
   machines : (machine : Machine) (events : List Event) (replies : List Reply) → AreRecalled config machine events replies → (before : List Event) (asked : Event) (later : List Event) (given : Reply) → events ≡ before ++ asked ∷ later
@@ -39,7 +33,7 @@ module _ {config : Config} where
   machines machine _ _ (Same _ first events replies are) [] asked later given split is none = is
   machines machine _ _ (Same _ first events replies are) (one ∷ before) asked later given split is none = machines (event_step machine first).state events replies are before asked later given (cc) is none
   machines machine _ _ (Reported _ window end events replies ends keeps are) [] asked later given split is none = absurd (none (window, _, cc, sym (same_Some _ _ is)))
-  machines machine _ _ (Reported _ window end events replies ends keeps are) (one ∷ before) asked later given split is none = machines (event_step machine (event.Control (control.Report window))).state events replies are before asked later given (cc) is none
+  machines machine _ _ (Reported _ window end events replies ends keeps are) (one ∷ before) asked later given split is none = machines (event_step machine (Event.Control (Control.Report window))).state events replies are before asked later given (cc) is none
 
   -- the world beside them is that beside the machine
   beside : (machine : Machine) (events : List Event) (replies : List Reply) → AreRecalled config machine events replies → (world : World) (before later : List Event) → events ≡ before ++ later → world_beside world before replies ≡ world_beside world before (machine_replies machine events)
@@ -48,8 +42,8 @@ module _ {config : Config} where
   beside machine _ _ (NoneYet _) world (one ∷ before) later split = cc
   beside machine _ _ (Same _ first events replies are) world (one ∷ before) later split = beside (event_step machine first).state events replies are (world_beside_event world one (event_step machine first).reply) before later cc
   beside machine _ _ (Reported _ window end events replies ends keeps are) world (one ∷ before) later split =
-      let is_asked : one ≡ event.Control (control.Report window) = cc in
-      rw is_asked (beside (event_step machine (event.Control (control.Report window))).state events replies are world before later cc)
+      let is_asked : one ≡ Event.Control (Control.Report window) = cc in
+      rw is_asked (beside (event_step machine (Event.Control (Control.Report window))).state events replies are world before later cc)
 
   -- replies to more events
   recalled_more : (machine : Machine) (events : List Event) (replies : List Reply) (more : List Event) (given : List Reply) → AreRecalled config machine events replies → AreRecalled config (machine_after machine events) more given
@@ -58,7 +52,7 @@ module _ {config : Config} where
   recalled_more machine _ _ more given (NoneYet _) later = later
   recalled_more machine _ _ more given (Same _ asked events replies are) later = Same machine asked (events ++ more) (replies ++ given) (recalled_more (event_step machine asked).state events replies more given are later)
   recalled_more machine _ _ more given (Reported _ window end events replies ends keeps are) later =
-      Reported machine window end (events ++ more) (replies ++ given) ends keeps (recalled_more (event_step machine (event.Control (control.Report window))).state events replies more given are later)
+      Reported machine window end (events ++ more) (replies ++ given) ends keeps (recalled_more (event_step machine (Event.Control (Control.Report window))).state events replies more given are later)
 
 -- so they keep the promise, as the machine's do
 pub recalled_promised : EventsKeepTheReplay → (config : Config) (events : List Event) (replies : List Reply) → AreRecalled config (first_machine config) events replies → ArePromised config events replies
@@ -79,28 +73,28 @@ recalled_promised law config events replies are = record { outcome = record whol
   promise = record {
     answered = answered (first_machine config) events replies are;
     replies = λ before who said given is plain.
-        keeps.replies before who said given (as_the_machines before (event.Session who said) given (λ reported. cc) is) plain
-        ∙ ap (λ (world : World). (world_step world who said).reply) (world_is before (event.Session who said) given is);
+        keeps.replies before who said given (as_the_machines before (Event.Session who said) given (λ reported. cc) is) plain
+        ∙ ap (λ (world : World). (world_step world who said).reply) (world_is before (Event.Session who said) given is);
     full = record {
       new = λ before who said is. (keeps.full).new before who said (as_the_machines before _ _ (λ reported. cc) is);
       only = λ before who slot references numbers is. (keeps.full).only before who slot references numbers (as_the_machines before _ _ (λ reported. cc) is);
       alone = λ before who slot references numbers is. (keeps.full).alone before who slot references numbers (as_the_machines before _ _ (λ reported. cc) is);
       each = λ before who slot references numbers given is. (keeps.full).each before who slot references numbers given (as_the_machines before _ given (λ reported. cc) is);
       made = λ before who slot references numbers is.
-          ap (λ (world : World). (world_step world who (command.New slot references numbers)).reply) (sym (world_is before _ _ is)) ∙ (keeps.full).made before who slot references numbers (as_the_machines before _ _ (λ reported. cc) is);
+          ap (λ (world : World). (world_step world who (Command.New slot references numbers)).reply) (sym (world_is before _ _ is)) ∙ (keeps.full).made before who slot references numbers (as_the_machines before _ _ (λ reported. cc) is);
     };
     refused = λ before who said why is. keeps.refused before who said why (as_the_machines before _ _ (λ reported. cc) is);
     limit = record {
       greatest = (keeps.limit).greatest;
-      spent = λ before asked units phase is. (keeps.limit).spent before asked units phase (as_the_machines before asked (reply.Spent units phase) (λ reported. cc) is);
+      spent = λ before asked units phase is. (keeps.limit).spent before asked units phase (as_the_machines before asked (Reply.Spent units phase) (λ reported. cc) is);
     };
     cycles = keeps.cycles;
     forwarders = keeps.forwarders;
     moments = keeps.moments;
     ends = keeps.ends;
     left = record {
-      running = λ before given is. (keeps.left).running before given (as_the_machines before (event.Control control.Left) given (λ reported. cc) is);
-      idle = λ before given is. (keeps.left).idle before given (as_the_machines before (event.Control control.Left) given (λ reported. cc) is);
+      running = λ before given is. (keeps.left).running before given (as_the_machines before (Event.Control Control.Left) given (λ reported. cc) is);
+      idle = λ before given is. (keeps.left).idle before given (as_the_machines before (Event.Control Control.Left) given (λ reported. cc) is);
     };
     share = keeps.share;
   }
@@ -127,18 +121,18 @@ module _ (replays : EventsKeepTheReplay) (keep : EventsKeepWhatIsRecalled) (repo
     config_is : machine.heap.config ≡ config
     config_is = ap (λ (m : Machine). m.heap.config) (is.recalls).same ∙ (run-stays config events).config_is
 
-    told : (window : ℕ) → (event_step machine (event.Control (control.Report window))).reply ≡ reply.Report (report_on config machine.trace window)
+    told : (window : ℕ) → (event_step machine (Event.Control (Control.Report window))).reply ≡ Reply.Report (report_on config machine.trace window)
     unfolding event_step control_step
-    told window = ap (λ (c : Config). reply.Report (report_on c machine.trace window)) config_is
+    told window = ap (λ (c : Config). Reply.Report (report_on c machine.trace window)) config_is
 
     -- one event is answered so
     same : (asked : Event) → is_report asked ≡ false → AreRecalled config whole (asked ∷ []) ((event_step machine asked).reply ∷ [])
     same asked none = rw (keep.replies whole machine asked is.recalls none) (Same whole asked [] [] (NoneYet _))
 
     answers : (asked : Event) → AreRecalled config whole (asked ∷ []) ((event_step machine asked).reply ∷ [])
-    answers (event.Session who said) = same (event.Session who said) refl
-    answers (event.Control (control.Report window)) = rw (told window) (Reported whole window machine.trace [] [] (is.recalls).trace (reports config events machine window is.recalls) (NoneYet _))
-    answers (event.Control other) = same (event.Control other) refl
+    answers (Event.Session who said) = same (Event.Session who said) refl
+    answers (Event.Control (Control.Report window)) = rw (told window) (Reported whole window machine.trace [] [] (is.recalls).trace (reports config events machine window is.recalls) (NoneYet _))
+    answers (Event.Control other) = same (Event.Control other) refl
 
     pub step_recalled : (next : Machine) (asked : Event) (given : Reply) → event_step machine asked ≡ says given next → IsRecalled config (events ++ asked ∷ []) (replies ++ given ∷ []) next
     step_recalled next asked given step =

@@ -1,17 +1,12 @@
 -- A machine behind a handle that has room for events.
 use Rattle.std.proofs.Common.{◌≡◌, ℕ, refl, subst}
-use Rattle.mh_model.specs.declared.command.Event.{Event}
-use Rattle.mh_model.specs.declared.reply.Reply.{Reply}
-use Rattle.mh_script.specs.OfMachine.Reserved as machines
-use Rattle.mh_script.specs.OfMachine.Reserved.{ReservedEventsAskForNoMemory}
-use Rattle.mh_script.specs.OfMachine.Running.{Running, Does, Forgets, MayAskForMemory}
-use Rattle.mh_embed.specs.declared.driver.Driver.{Driver}
-use Rattle.mh_embed.specs.declared.driver.Driver.TheVariants.{Collects}
-use Rattle.mh_embed.specs.declared.status.Status.{Status}
-use Rattle.mh_embed.specs.declared.status.Status.TheVariants as status
-use Rattle.mh_embed.specs.Drivers.{Collected}
+use Rattle.mh_model.specs.declared.{command.Event.Event, reply.Reply.Reply}
+use Rattle.mh_machine.specs.{Reserved.ReservedEventsAskForNoMemory, Running.{Running, Does, Forgets, MayAskForMemory}}
+use Rattle.mh_embed.specs.{declared.driver.Driver.Driver, declared.driver.Driver.TheVariants.Collects}
+use Rattle.mh_embed.specs.{declared.status.Status.Status, Drivers.Collected}
 use Rattle.mh_embed.specs.Driving.{ByMachine, ByWorld, IsUndone, Starved, Takes}
 use Rattle.mh_embed.specs.Laws.{AtFirst, Done, Forgotten, ReservedEventsAreNotRefusedMemory, Since}
+use Rattle.mh_machine.specs.Reserved as machines
 
 pub same_machine : (was now : Collected) → Collects was ≡ Collects now → was ≡ now
 same_machine was now e = cc
@@ -45,11 +40,11 @@ is_since first _ _ (Forgotten count was now since forgetting) =
     record { now = now; is = refl; since = machines.Forgotten count before.now.machine now.machine before.since forgets }
 
 -- memory is refused only to an event that may ask for it
-starved_asks : (driver : Driver) (event : Event) (ends : Status) (now : Collected) → ends ≡ status.NoMemory → driver ≡ Collects now → IsUndone driver event ends → MayAskForMemory now.machine.room event
+starved_asks : (driver : Driver) (event : Event) (ends : Status) (now : Collected) → ends ≡ Status.NoMemory → driver ≡ Collects now → IsUndone driver event ends → MayAskForMemory now.machine.room event
 starved_asks _ _ _ now none is (Starved old event room asks) = subst (λ (from : Collected). MayAskForMemory from.machine.room event) (same_machine old now is) asks
 starved_asks _ _ _ now none is other = cc
 
 pub not_refused : ReservedEventsAskForNoMemory → ReservedEventsAreNotRefusedMemory
 not_refused law events before first new count event reserving since few other undone =
     let at : IsSince first.machine count new = is_since first count new since in
-    law events before.machine first.machine at.now.machine count event reserving.reserves at.since few other (starved_asks new event status.NoMemory at.now refl at.is undone)
+    law events before.machine first.machine at.now.machine count event reserving.reserves at.since few other (starved_asks new event Status.NoMemory at.now refl at.is undone)

@@ -1,25 +1,16 @@
 -- A line whose event is done, in a run line by line.
-use Rattle.std.proofs.Common.{◌≡◌, ◌∙◌, ℕ, Some, List, refl, sym, ap}
+use Rattle.std.proofs.{Common.{◌≡◌, ◌∙◌, ℕ, Some, List, refl, sym, ap}, lemmas.Bool.lt-ltb}
 use Rattle.std.specs.Prelude.{codes}
-use Rattle.std.proofs.lemmas.Bool.{lt-ltb}
-use Rattle.mh_model.specs.declared.command.Event.{Event}
-use Rattle.mh_model.specs.declared.command.Event.TheVariants as events
-use Rattle.mh_model.specs.declared.reply.Reply.{Reply}
-use Rattle.mh_model.specs.Bytes.{Text}
-use Rattle.mh_model.specs.Limits.{most_events}
-use Rattle.mh_model.specs.Live as model
+use Rattle.mh_model.specs.{declared.command.Event.Event, declared.reply.Reply.Reply, Bytes.Text, Limits.most_events}
 use Rattle.mh_model.specs.Live.{Turn, answers_line, command_turn, event_turn, line_turn, turn, world_turn}
-use Rattle.mh_model.specs.Replies.{reply_text}
-use Rattle.mh_model.specs.Script.{Line, Blank, Calls, Asks, Wrong, line_of, session_number}
+use Rattle.mh_model.specs.{Replies.reply_text, Script.{Line, Blank, Calls, Asks, Wrong, line_of, session_number}}
 use Rattle.mh_live.specs.Promised.{line_event, names_after}
-use Rattle.mh_embed.specs.declared.status.Status.TheVariants as status
-use Rattle.mh_embed.specs.declared.status.Status.{Status}
-use Rattle.mh_embed.specs.declared.driver.Driver.{Driver}
+use Rattle.mh_embed.specs.{declared.status.Status.Status, declared.driver.Driver.Driver}
 use Rattle.mh_embed.specs.declared.driver.Driver.TheVariants.{Collects, Grows}
-use Rattle.mh_embed.specs.Driving.{ByMachine, ByWorld, Driven, Takes}
-use Rattle.mh_embed.specs.Endings.{LineEnds, Has}
+use Rattle.mh_embed.specs.{Driving.{ByMachine, ByWorld, Driven, Takes}, Endings.{LineEnds, Has}}
 use Rattle.mh_embed.specs.Laws.{LinesAreTurns, live_with}
 use Rattle.mh_embed.proofs.EndingLemmas.{IsAnswered, answered}
+use Rattle.mh_model.specs.Live as model
 
 same_Some : (x y : Reply) → Some x ≡ Some y → x ≡ y
 same_Some x y e = cc
@@ -31,8 +22,8 @@ said_turn n names (Grows run) says = world_turn n run.world names run.done says
 
 abbrev done_turn : List Text → List Text → Driver → Event → Turn
 done_turn names seen (Collects run) event = event_turn run.machine.machine names run.machine.done seen event
-done_turn names seen (Grows run) (events.Session who said) = command_turn run.world names run.done seen who said
-done_turn names seen (Grows run) (events.Control control) = answers_line (codes "refused 11 no collector") (model.Grows run.world names run.done)
+done_turn names seen (Grows run) (Event.Session who said) = command_turn run.world names run.done seen who said
+done_turn names seen (Grows run) (Event.Control control) = answers_line (codes "refused 11 no collector") (model.Grows run.world names run.done)
 
 turn_said : (n : ℕ) (names : List Text) (driver : Driver) (line : Text) → turn n (live_with names driver) line ≡ said_turn n names driver (line_of line)
 unfolding turn
@@ -46,12 +37,12 @@ taken_turn names seen _ _ _ _ (ByWorld old who said given new does) = rw (lt-ltb
 said_done : (n : ℕ) (names : List Text) (driver : Driver) (says : Line) (event : Event) → line_event names says ≡ Some event → said_turn n names driver says ≡ done_turn names (names_after names says) driver event
 said_done n names driver Blank event is = cc
 said_done n names driver Wrong event is = cc
-said_done n names (Collects run) (Calls name said) event is = let same : events.Session (session_number names name) said ≡ event = cc in rw (← same) refl
-said_done n names (Grows run) (Calls name said) event is = let same : events.Session (session_number names name) said ≡ event = cc in rw (← same) refl
-said_done n names (Collects run) (Asks control) event is = let same : events.Control control ≡ event = cc in rw (← same) refl
-said_done n names (Grows run) (Asks control) event is = let same : events.Control control ≡ event = cc in rw (← same) refl
+said_done n names (Collects run) (Calls name said) event is = let same : Event.Session (session_number names name) said ≡ event = cc in rw (← same) refl
+said_done n names (Grows run) (Calls name said) event is = let same : Event.Session (session_number names name) said ≡ event = cc in rw (← same) refl
+said_done n names (Collects run) (Asks control) event is = let same : Event.Control control ≡ event = cc in rw (← same) refl
+said_done n names (Grows run) (Asks control) event is = let same : Event.Control control ≡ event = cc in rw (← same) refl
 
-by_end : (n : ℕ) (old new : Driven) (given : Reply) (says : Line) (ends : Status) → ends ≡ status.Done → LineEnds old says new ends → new.reply ≡ Some given
+by_end : (n : ℕ) (old new : Driven) (given : Reply) (says : Line) (ends : Status) → ends ≡ Status.Done → LineEnds old says new ends → new.reply ≡ Some given
     → said_turn n old.names old.driver says ≡ answers_line (reply_text given) (live_with new.names new.driver)
 by_end n old new given says _ done (Has event ends of_line is) last =
     let answers : IsAnswered old event (names_after old.names says) new = answered old event (names_after old.names says) new ends done is in
@@ -62,4 +53,4 @@ by_end n old new given says _ done (Has event ends of_line is) last =
 by_end n old new given says _ done _ last = cc
 
 pub are_turns : LinesAreTurns
-are_turns number line old new given ends last = turn_said number old.names old.driver line ∙ by_end number old new given (line_of line) status.Done refl ends last
+are_turns number line old new given ends last = turn_said number old.names old.driver line ∙ by_end number old new given (line_of line) Status.Done refl ends last

@@ -1,8 +1,6 @@
 -- The configuration that numbers are.
 use Rattle.std.specs.Prelude.{ℕ, Option, option_and_then}
-use Rattle.mh_model.specs.declared.config.Config.{Config}
-use Rattle.mh_model.specs.Configs.{configured_under}
-use Rattle.mh_model.specs.HistoryTexts.{rules_of}
+use Rattle.mh_model.specs.{declared.config.Config.Config, Configs.configured_under, HistoryTexts.rules_of}
 use Rattle.mh_model.specs.Limits.{least_quantum}
 
 -- the configuration with these numbers, under the rules with this number

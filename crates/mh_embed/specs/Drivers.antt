@@ -1,15 +1,10 @@
 -- A machine that a program drives, and what an event makes of it.
 use Rattle.std.specs.Prelude.{◌≡◌, ◌<◌, ℕ, Bool, true, false, Option, Some, None, List, [], ◌++◌}
-use Rattle.mh_model.specs.declared.command.Event.{Event}
-use Rattle.mh_model.specs.declared.config.Config.{Config}
-use Rattle.mh_model.specs.declared.deed.Deed.{Deed}
-use Rattle.mh_model.specs.declared.reply.Reply.{Reply}
-use Rattle.mh_model.specs.Deeds.{Account, Ran, account_of}
-use Rattle.mh_model.specs.Limits.{most_events}
+use Rattle.mh_model.specs.{declared.command.Event.Event, declared.config.Config.Config, declared.deed.Deed.Deed}
+use Rattle.mh_model.specs.{declared.reply.Reply.Reply, Deeds.{Account, Ran, account_of}, Limits.most_events}
 use Rattle.mh_model.specs.Machine.{Machine}
-use Rattle.mh_script.specs.OfMachine.Running.{Running, Does, Forgets, Reserves, first_running}
-use Rattle.mh_embed.specs.declared.numbers.UnitNumbers.{UnitNumbers}
-use Rattle.mh_embed.specs.Numbers.{no_units, units_between}
+use Rattle.mh_machine.specs.Running.{Running, Does, Forgets, Reserves, first_running}
+use Rattle.mh_embed.specs.{declared.numbers.UnitNumbers.UnitNumbers, Numbers.{no_units, units_between}}
 
 -- a machine, what its last event added to the trace, whether events keep their deeds, and the deeds of the last one, if they were kept
 pub record Collected : Type 0 where

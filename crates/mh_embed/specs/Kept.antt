@@ -1,12 +1,8 @@
 -- What a machine behind a handle keeps of its last event.
 use Rattle.std.specs.Prelude.{◌≡◌, Bool, ◌&&◌, if◌then◌else◌, Option, Some, None, List}
-use Rattle.mh_model.specs.declared.deed.Deed.{Deed}
-use Rattle.mh_model.specs.Machine.{Machine}
-use Rattle.mh_model.specs.Trace.{mutator_count, collector_count}
-use Rattle.mh_deeds.specs.Accounts.{account_in, is_whole}
-use Rattle.mh_deeds.specs.declared.account.Account.{Account}
-use Rattle.mh_embed.specs.declared.collecting.Counts.{Counts}
-use Rattle.mh_embed.specs.Drivers.{all_deeds}
+use Rattle.mh_model.specs.{declared.deed.Deed.Deed, Machine.Machine, Trace.{mutator_count, collector_count}}
+use Rattle.mh_deeds.specs.{Accounts.{account_in, is_whole}, declared.account.Account.Account}
+use Rattle.mh_embed.specs.{declared.collecting.Counts.Counts, Drivers.all_deeds}
 
 -- the deeds of an event that kept them, if none is missing
 abbrev pub deeds_in : Bool → Account → Option (List Deed)

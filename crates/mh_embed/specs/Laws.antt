@@ -1,27 +1,16 @@
 -- What is answered behind a handle, beside what a run line by line answers.
 use Rattle.std.specs.Prelude.{◌≡◌, ◌<◌, ℕ, suc, Bool, true, false, Some, List}
-use Rattle.mh_model.specs.declared.command.Event.{Event}
-use Rattle.mh_model.specs.declared.command.Event.TheVariants as event
-use Rattle.mh_model.specs.declared.config.Config.{Config}
-use Rattle.mh_model.specs.declared.reply.Reply.{Reply}
-use Rattle.mh_model.specs.Bytes.{Text}
-use Rattle.mh_model.specs.Forms.{Phrase, command_phrase, control_phrase, is_sayable}
-use Rattle.mh_model.specs.Live as model
-use Rattle.mh_model.specs.Live.{Live, Runs, answers_line, turn}
-use Rattle.mh_model.specs.Replies.{reply_text}
-use Rattle.mh_model.specs.Script.{Line, line_of}
-use Rattle.mh_script.specs.OfMachine.Reserved.{is_dump}
-use Rattle.mh_embed.specs.declared.driver.Driver.{Driver}
-use Rattle.mh_embed.specs.declared.driver.Driver.TheVariants.{Collects, Grows}
-use Rattle.mh_embed.specs.declared.numbers.EventNumbers.{EventNumbers}
-use Rattle.mh_embed.specs.declared.numbers.ReplyNumbers.{ReplyNumbers}
-use Rattle.mh_embed.specs.declared.status.Status.{Status}
-use Rattle.mh_embed.specs.declared.status.Status.TheVariants as status
-use Rattle.mh_embed.specs.Drivers.{Collected, Forgetting, Reserving}
+use Rattle.mh_model.specs.{declared.command.Event.Event, declared.config.Config.Config, declared.reply.Reply.Reply}
+use Rattle.mh_model.specs.{Bytes.Text, Forms.{Phrase, command_phrase, control_phrase, is_sayable}}
+use Rattle.mh_model.specs.{Live.{Live, Runs, answers_line, turn}, Replies.reply_text, Script.{Line, line_of}}
+use Rattle.mh_machine.specs.Reserved.{is_dump}
+use Rattle.mh_embed.specs.{declared.driver.Driver.Driver, declared.driver.Driver.TheVariants.{Collects, Grows}}
+use Rattle.mh_embed.specs.{declared.numbers.EventNumbers.EventNumbers, declared.numbers.ReplyNumbers.ReplyNumbers}
+use Rattle.mh_embed.specs.{declared.status.Status.Status, Drivers.{Collected, Forgetting, Reserving}}
 use Rattle.mh_embed.specs.Driving.{Driven, IsUndone, Takes, first_driven}
 use Rattle.mh_embed.specs.Endings.{AnswerEnds, ForgetEnds, JudgeEnds, LineEnds, ReserveEnds, StepEnds, TellEnds}
-use Rattle.mh_embed.specs.Numbers.{event_numbered}
-use Rattle.mh_embed.specs.Promised.{AreCalls, IsDrivenAsPromised, IsOneCall}
+use Rattle.mh_embed.specs.{Numbers.event_numbered, Promised.{AreCalls, IsDrivenAsPromised, IsOneCall}}
+use Rattle.mh_model.specs.Live as model
 
 -- the state of a run line by line that drives this machine or world, between two lines, when these names were seen
 abbrev pub live_with : List Text → Driver → Live
@@ -30,18 +19,18 @@ live_with names (Grows grown) = model.Grows grown.world names grown.done
 
 -- A line whose event is done gets the text of its reply from a run line by line too, which then stands as here
 abbrev pub LinesAreTurns : Type 0
-LinesAreTurns = (number : ℕ) (line : Text) (old new : Driven) (given : Reply) → LineEnds old (line_of line) new status.Done → new.reply ≡ Some given
+LinesAreTurns = (number : ℕ) (line : Text) (old new : Driven) (given : Reply) → LineEnds old (line_of line) new Status.Done → new.reply ≡ Some given
     → turn number (live_with old.names old.driver) line ≡ answers_line (reply_text given) (live_with new.names new.driver)
 
 -- how an event is written, but for the name of its session
 abbrev pub event_phrase : Event → Phrase
-event_phrase (event.Session who command) = command_phrase command
-event_phrase (event.Control control) = control_phrase control
+event_phrase (Event.Session who command) = command_phrase command
+event_phrase (Event.Control control) = control_phrase control
 
 -- the session of an event is a number of 8 bits, as every session is
 abbrev pub HasSession : Event → Type 0
-HasSession (event.Session who command) = who < 256
-HasSession (event.Control control) = Unit {0}
+HasSession (Event.Session who command) = who < 256
+HasSession (Event.Control control) = Unit {0}
 
 -- Each event whose numbers are in the range of their types can be asked as numbers
 abbrev pub EventsHaveNumbers : Type 0
@@ -55,7 +44,7 @@ pub data Since (first : Driver) : ℕ → Driver → Type 0 where
 
 -- Once there is room for some events, memory is refused to none of the next so many, unless it is a dump; and so to none of so many after each time that the trace is forgotten
 abbrev pub ReservedEventsAreNotRefusedMemory : Type 0
-ReservedEventsAreNotRefusedMemory = (events : ℕ) (before first : Collected) (new : Driver) (count : ℕ) (event : Event) → Reserving events before first → Since (Collects first) count new → count < events → is_dump event ≡ false → ¬ IsUndone new event status.NoMemory
+ReservedEventsAreNotRefusedMemory = (events : ℕ) (before first : Collected) (new : Driver) (count : ℕ) (event : Event) → Reserving events before first → Since (Collects first) count new → count < events → is_dump event ≡ false → ¬ IsUndone new event Status.NoMemory
 
 -- However a call of the library ends that may change what is driven, it is one call
 pub record EndsAreCalls : Type 0 where

@@ -1,35 +1,18 @@
 -- Events, replies, the items of dumps, deeds and units as plain numbers.
 use Rattle.std.specs.Prelude.{◌≡◌, ℕ, suc, ◌+◌, ◌-◌, ◌==◌, min, if◌then◌else◌, Option, Some, None, option_map, List, [], ◌∷◌, ◌++◌, length, take, replicate}
 use Rattle.std.specs.Option.{option_or}
-use Rattle.mh_model.specs.declared.command.Command.{Command}
-use Rattle.mh_model.specs.declared.command.Control.{Control}
-use Rattle.mh_model.specs.declared.command.Event.{Event}
-use Rattle.mh_model.specs.declared.command.Event.TheVariants as event
-use Rattle.mh_model.specs.declared.dump.DumpItem.{DumpItem}
-use Rattle.mh_model.specs.declared.dump.DumpItem.TheVariants as item
-use Rattle.mh_model.specs.declared.deed.Deed.{Deed}
-use Rattle.mh_model.specs.declared.deed.Deed.TheVariants as deed
-use Rattle.mh_model.specs.declared.deed.Edge.{Edge}
-use Rattle.mh_model.specs.declared.deed.Fate.{Fate}
-use Rattle.mh_model.specs.declared.deed.Fate.TheVariants as fate
-use Rattle.mh_model.specs.declared.deed.PartName.{PartName}
-use Rattle.mh_model.specs.declared.deed.Tier.{Tier}
-use Rattle.mh_model.specs.declared.deed.Tier.TheVariants.{Dense, Fresh, Sparse}
-use Rattle.mh_model.specs.declared.history.Version.TheVariants.{Two}
-use Rattle.mh_model.specs.declared.reply.Reply.{Reply}
-use Rattle.mh_model.specs.declared.reply.Reply.TheVariants as reply
+use Rattle.mh_model.specs.{declared.command.Command.Command, declared.command.Control.Control}
+use Rattle.mh_model.specs.{declared.command.Event.Event, declared.dump.DumpItem.DumpItem, declared.deed.Deed.Deed}
+use Rattle.mh_model.specs.{declared.deed.Edge.Edge, declared.deed.Fate.Fate, declared.deed.PartName.PartName}
+use Rattle.mh_model.specs.{declared.deed.Tier.Tier, declared.deed.Tier.TheVariants.{Dense, Fresh, Sparse}}
+use Rattle.mh_model.specs.{declared.history.Version.TheVariants.Two, declared.reply.Reply.Reply}
 use Rattle.mh_model.specs.declared.reply.Refusal.{Refusal}
 use Rattle.mh_model.specs.declared.reply.Refusal.TheVariants.{BadSlot, Null, NoField, TooLarge, HeapFull, Ended, TooManySessions}
-use Rattle.mh_model.specs.Deeds.{deed_units}
-use Rattle.mh_model.specs.Machine.{Machine}
-use Rattle.mh_model.specs.Trace.{mutator_count, collector_count}
+use Rattle.mh_model.specs.{Deeds.deed_units, Machine.Machine, Trace.{mutator_count, collector_count}}
 use Rattle.mh_model.specs.Forms.{Row, within, are_below, command_rows, control_rows}
 use Rattle.mh_model.specs.Numbered.{phase_number, flag_number}
-use Rattle.mh_embed.specs.declared.numbers.EventNumbers.{EventNumbers}
-use Rattle.mh_embed.specs.declared.numbers.ReplyNumbers.{ReplyNumbers}
-use Rattle.mh_embed.specs.declared.numbers.ItemNumbers.{ItemNumbers}
-use Rattle.mh_embed.specs.declared.numbers.DeedNumbers.{DeedNumbers}
-use Rattle.mh_embed.specs.declared.numbers.UnitNumbers.{UnitNumbers}
+use Rattle.mh_embed.specs.declared.numbers.{EventNumbers.EventNumbers, ReplyNumbers.ReplyNumbers}
+use Rattle.mh_embed.specs.declared.numbers.{ItemNumbers.ItemNumbers, DeedNumbers.DeedNumbers, UnitNumbers.UnitNumbers}
 
 -- Events -----------------------------------------------------------------------------------------
 
@@ -53,7 +36,7 @@ control_numbered n = made_by (row_from 13 n.kind (control_rows Two)) (n.third �
 
 -- The event that numbers are. A session past the 255th stands for that one: there are eight
 abbrev pub event_numbered : EventNumbers → Option Event
-event_numbered n = option_or (option_map (λ command. event.Session (min n.session 255) command) (command_numbered n)) (option_map (λ control. event.Control control) (control_numbered n))
+event_numbered n = option_or (option_map (λ command. Event.Session (min n.session 255) command) (command_numbered n)) (option_map (λ control. Event.Control control) (control_numbered n))
 
 -- Replies ----------------------------------------------------------------------------------------
 
@@ -74,28 +57,28 @@ option_values (Some n) = 1 ∷ n ∷ []
 
 -- the number of the kind of a reply
 abbrev pub reply_kind : Reply → ℕ
-reply_kind reply.Done = 1
-reply_kind (reply.Number number) = 2
-reply_kind reply.Yes = 3
-reply_kind reply.No = 4
-reply_kind (reply.Shape shape) = 5
-reply_kind (reply.Refused refusal) = 6
-reply_kind (reply.Spent units phase) = 7
-reply_kind (reply.Stat stat) = 8
-reply_kind (reply.Dump items) = 9
-reply_kind (reply.Report report) = 10
-reply_kind (reply.Left quanta) = 11
+reply_kind Reply.Done = 1
+reply_kind (Reply.Number number) = 2
+reply_kind Reply.Yes = 3
+reply_kind Reply.No = 4
+reply_kind (Reply.Shape shape) = 5
+reply_kind (Reply.Refused refusal) = 6
+reply_kind (Reply.Spent units phase) = 7
+reply_kind (Reply.Stat stat) = 8
+reply_kind (Reply.Dump items) = 9
+reply_kind (Reply.Report report) = 10
+reply_kind (Reply.Left quanta) = 11
 
 -- the numbers of a reply, in the order of its text. Those of a dump are how many items it has
 abbrev pub reply_values : Reply → List ℕ
-reply_values (reply.Number number) = number ∷ []
-reply_values (reply.Shape shape) = shape.references ∷ shape.numbers ∷ []
-reply_values (reply.Refused refusal) = refusal_number refusal ∷ []
-reply_values (reply.Spent units phase) = units ∷ phase_number phase ∷ []
-reply_values (reply.Stat stat) = stat.free ∷ stat.live ∷ stat.old ∷ phase_number stat.phase ∷ stat.cycle ∷ []
-reply_values (reply.Dump items) = length items ∷ []
-reply_values (reply.Report report) = report.mutator ∷ report.collector ∷ report.quanta ∷ report.greatest ∷ report.window ∷ (option_values report.least ++ option_values report.floor)
-reply_values (reply.Left quanta) = quanta ∷ []
+reply_values (Reply.Number number) = number ∷ []
+reply_values (Reply.Shape shape) = shape.references ∷ shape.numbers ∷ []
+reply_values (Reply.Refused refusal) = refusal_number refusal ∷ []
+reply_values (Reply.Spent units phase) = units ∷ phase_number phase ∷ []
+reply_values (Reply.Stat stat) = stat.free ∷ stat.live ∷ stat.old ∷ phase_number stat.phase ∷ stat.cycle ∷ []
+reply_values (Reply.Dump items) = length items ∷ []
+reply_values (Reply.Report report) = report.mutator ∷ report.collector ∷ report.quanta ∷ report.greatest ∷ report.window ∷ (option_values report.least ++ option_values report.floor)
+reply_values (Reply.Left quanta) = quanta ∷ []
 reply_values _ = []
 
 -- numbers with zeros after them, so many in all
@@ -115,15 +98,15 @@ pub record IsShownBy (given : Reply) (n : ReplyNumbers) : Type 0 where
 
 -- the number of the kind of an item
 abbrev pub item_kind : DumpItem → ℕ
-item_kind (item.Page page class_size is_flagged) = 1
-item_kind (item.Block slot birth part) = 2
-item_kind (item.Forwarder slot to_page to_slot) = 3
+item_kind (DumpItem.Page page class_size is_flagged) = 1
+item_kind (DumpItem.Block slot birth part) = 2
+item_kind (DumpItem.Forwarder slot to_page to_slot) = 3
 
 -- the numbers of an item, in the order of its text
 abbrev pub item_values : DumpItem → List ℕ
-item_values (item.Page page class_size is_flagged) = page ∷ class_size ∷ flag_number is_flagged ∷ []
-item_values (item.Block slot birth part) = slot ∷ birth ∷ part ∷ []
-item_values (item.Forwarder slot to_page to_slot) = slot ∷ to_page ∷ to_slot ∷ []
+item_values (DumpItem.Page page class_size is_flagged) = page ∷ class_size ∷ flag_number is_flagged ∷ []
+item_values (DumpItem.Block slot birth part) = slot ∷ birth ∷ part ∷ []
+item_values (DumpItem.Forwarder slot to_page to_slot) = slot ∷ to_page ∷ to_slot ∷ []
 
 -- The numbers show an item
 pub record IsItemShownBy (found : DumpItem) (n : ItemNumbers) : Type 0 where
@@ -132,7 +115,7 @@ pub record IsItemShownBy (found : DumpItem) (n : ItemNumbers) : Type 0 where
 
 -- the items of a reply, none if it isn't a dump
 abbrev pub items_of : Option Reply → List DumpItem
-items_of (Some (reply.Dump items)) = items
+items_of (Some (Reply.Dump items)) = items
 items_of _ = []
 
 -- Units ------------------------------------------------------------------------------------------
@@ -178,53 +161,53 @@ tier_number Sparse = 2
 
 -- the number of the kind of a deed, of which a sweep has four by what it found
 abbrev pub fate_kind : Fate → ℕ
-fate_kind fate.Empty = 8
-fate_kind (fate.Kept name) = 9
-fate_kind (fate.Freed name) = 10
-fate_kind (fate.FreedForwarder target) = 11
+fate_kind Fate.Empty = 8
+fate_kind (Fate.Kept name) = 9
+fate_kind (Fate.Freed name) = 10
+fate_kind (Fate.FreedForwarder target) = 11
 
 abbrev pub deed_kind : Deed → ℕ
-deed_kind (deed.Start cycle) = 1
-deed_kind (deed.Enter phase) = 2
-deed_kind deed.End = 3
-deed_kind (deed.Root slot edge) = 4
-deed_kind (deed.Mark place name) = 5
-deed_kind (deed.Reference index edge) = 6
-deed_kind (deed.Pass page) = 7
-deed_kind (deed.Sweep place found) = fate_kind found
-deed_kind (deed.FreePage page) = 12
-deed_kind (deed.FlagPage page) = 13
-deed_kind (deed.UnflagPage page) = 14
-deed_kind (deed.Stay place) = 15
-deed_kind (deed.Move place to name class_size) = 16
-deed_kind deed.ForwardRoots = 17
-deed_kind (deed.Shade place) = 18
-deed_kind (deed.Make place name class_size fields tier) = 19
+deed_kind (Deed.Start cycle) = 1
+deed_kind (Deed.Enter phase) = 2
+deed_kind Deed.End = 3
+deed_kind (Deed.Root slot edge) = 4
+deed_kind (Deed.Mark place name) = 5
+deed_kind (Deed.Reference index edge) = 6
+deed_kind (Deed.Pass page) = 7
+deed_kind (Deed.Sweep place found) = fate_kind found
+deed_kind (Deed.FreePage page) = 12
+deed_kind (Deed.FlagPage page) = 13
+deed_kind (Deed.UnflagPage page) = 14
+deed_kind (Deed.Stay place) = 15
+deed_kind (Deed.Move place to name class_size) = 16
+deed_kind Deed.ForwardRoots = 17
+deed_kind (Deed.Shade place) = 18
+deed_kind (Deed.Make place name class_size fields tier) = 19
 
 -- the numbers of a deed, in the order of its words
 abbrev pub fate_values : Fate → List ℕ
-fate_values fate.Empty = []
-fate_values (fate.Kept name) = part_values name
-fate_values (fate.Freed name) = part_values name
-fate_values (fate.FreedForwarder target) = target ∷ []
+fate_values Fate.Empty = []
+fate_values (Fate.Kept name) = part_values name
+fate_values (Fate.Freed name) = part_values name
+fate_values (Fate.FreedForwarder target) = target ∷ []
 
 abbrev pub deed_values : Deed → List ℕ
-deed_values (deed.Start cycle) = cycle ∷ []
-deed_values (deed.Enter phase) = phase_number phase ∷ []
-deed_values deed.End = []
-deed_values (deed.Root slot edge) = slot ∷ edge_values edge
-deed_values (deed.Mark place name) = place ∷ part_values name
-deed_values (deed.Reference index edge) = index ∷ edge_values edge
-deed_values (deed.Pass page) = page ∷ []
-deed_values (deed.Sweep place found) = place ∷ fate_values found
-deed_values (deed.FreePage page) = page ∷ []
-deed_values (deed.FlagPage page) = page ∷ []
-deed_values (deed.UnflagPage page) = page ∷ []
-deed_values (deed.Stay place) = place ∷ []
-deed_values (deed.Move place to name class_size) = place ∷ to ∷ (part_values name ++ class_size ∷ [])
-deed_values deed.ForwardRoots = []
-deed_values (deed.Shade place) = place ∷ []
-deed_values (deed.Make place name class_size fields tier) = place ∷ (part_values name ++ class_size ∷ fields.references ∷ fields.numbers ∷ tier_number tier ∷ [])
+deed_values (Deed.Start cycle) = cycle ∷ []
+deed_values (Deed.Enter phase) = phase_number phase ∷ []
+deed_values Deed.End = []
+deed_values (Deed.Root slot edge) = slot ∷ edge_values edge
+deed_values (Deed.Mark place name) = place ∷ part_values name
+deed_values (Deed.Reference index edge) = index ∷ edge_values edge
+deed_values (Deed.Pass page) = page ∷ []
+deed_values (Deed.Sweep place found) = place ∷ fate_values found
+deed_values (Deed.FreePage page) = page ∷ []
+deed_values (Deed.FlagPage page) = page ∷ []
+deed_values (Deed.UnflagPage page) = page ∷ []
+deed_values (Deed.Stay place) = place ∷ []
+deed_values (Deed.Move place to name class_size) = place ∷ to ∷ (part_values name ++ class_size ∷ [])
+deed_values Deed.ForwardRoots = []
+deed_values (Deed.Shade place) = place ∷ []
+deed_values (Deed.Make place name class_size fields tier) = place ∷ (part_values name ++ class_size ∷ fields.references ∷ fields.numbers ∷ tier_number tier ∷ [])
 
 -- the numbers of a deed, seven in all
 abbrev pub padded_deed : List ℕ → List ℕ

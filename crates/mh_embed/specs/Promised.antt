@@ -1,21 +1,13 @@
 -- What calls on a machine promise, from its opening on: the replies that they gave are those of an outcome that keeps the promise, also if the trace was
 -- forgotten between them.
 use Rattle.std.specs.Prelude.{◌≡◌, ℕ, Bool, Some, List, [], ◌∷◌, ◌++◌, length}
-use Rattle.mh_model.specs.declared.command.Control.TheVariants as control
-use Rattle.mh_model.specs.declared.command.Event.{Event}
-use Rattle.mh_model.specs.declared.command.Event.TheVariants as event
-use Rattle.mh_model.specs.declared.config.Config.{Config}
-use Rattle.mh_model.specs.declared.reply.Reply.{Reply}
-use Rattle.mh_model.specs.declared.reply.Reply.TheVariants as reply
-use Rattle.mh_model.specs.Machine.{Machine, event_step, first_machine, machine_after, report_on}
-use Rattle.mh_model.specs.Trace.{TraceState}
+use Rattle.mh_model.specs.{declared.command.Event.Event, declared.config.Config.Config, declared.reply.Reply.Reply}
+use Rattle.mh_model.specs.{Machine.{Machine, event_step, first_machine, machine_after, report_on}, Trace.TraceState}
+use Rattle.mh_model.specs.declared.command.Control.{Control}
 use Rattle.mh_promise.specs.Promise.{ArePromised}
-use Rattle.mh_trace_laws.specs.Forgetting.{IsEndOf, KeepsPromise, Recalls}
-use Rattle.mh_embed.specs.declared.driver.Driver.TheVariants.{Collects}
-use Rattle.mh_embed.specs.declared.status.Status.{Status}
-use Rattle.mh_embed.specs.Drivers.{Collected}
-use Rattle.mh_embed.specs.Driving.{Driven, Takes}
-use Rattle.mh_embed.specs.Endings.{ForgetEnds, ReserveEnds, TellEnds}
+use Rattle.mh_run_laws.specs.Forgetting.{IsEndOf, KeepsPromise, Recalls}
+use Rattle.mh_embed.specs.{declared.driver.Driver.TheVariants.Collects, declared.status.Status.Status}
+use Rattle.mh_embed.specs.{Drivers.Collected, Driving.{Driven, Takes}, Endings.{ForgetEnds, ReserveEnds, TellEnds}}
 
 -- One call did this event and gave it this reply, or it did none. Then it asked for deeds or for room, or had the trace forgotten, or left what is
 -- driven as it was
@@ -41,8 +33,8 @@ pub data AreRecalled (config : Config) : Machine → List Event → List Reply �
   Same : (machine : Machine) (event : Event) (events : List Event) (replies : List Reply) → AreRecalled config (event_step machine event).state events replies
       → AreRecalled config machine (event ∷ events) ((event_step machine event).reply ∷ replies)
   Reported : (machine : Machine) (window : ℕ) (end : TraceState) (events : List Event) (replies : List Reply) → IsEndOf machine.trace end → KeepsPromise config (report_on config end window)
-      → AreRecalled config (event_step machine (event.Control (control.Report window))).state events replies
-      → AreRecalled config machine (event.Control (control.Report window) ∷ events) (reply.Report (report_on config end window) ∷ replies)
+      → AreRecalled config (event_step machine (Event.Control (Control.Report window))).state events replies
+      → AreRecalled config machine (Event.Control (Control.Report window) ∷ events) (Reply.Report (report_on config end window) ∷ replies)
 
 -- Events were done and given replies, and this is driven after them. It is the machine after these events, but that it may have forgotten how its trace
 -- begins, so its heap is that machine's. The replies are the machine's, but for reports, and those of an outcome that keeps the promise

@@ -1,18 +1,16 @@
 //! A machine, with what its last event added to the trace and, if they are asked for, the deeds of that. Quanta are run by
 //! the calling thread alone. An event that isn't done leaves all as it was, the deeds of the last one too.
 ghost use Rattle.std.specs.Prelude.{◌≡◌, ◌<◌, ◌≤◌, true, is_some, Some, None, List, IfOk, MatchOption, OnOk, OnErr, IsErrOf, length, slice_get};
+ghost use Rattle.mh_model.specs.Limits.{most_events};
+ghost use Rattle.mh_machine.specs.{Running.{Does, MayAskForMemory}, declared.machine.Stop.Stop};
+ghost use Rattle.mh_embed.specs.{Drivers.{AreKept, first_collected}, Kept.IsCounted, Numbers.units_between};
 ghost use Rattle.mh_model.specs.declared.deed.Deed as deeds;
 ghost use Rattle.mh_model.specs.declared.command.Control.TheVariants as controls;
-ghost use Rattle.mh_model.specs.Limits.{most_events};
 ghost use Rattle.mh_model.specs.Machine as model;
-ghost use Rattle.mh_script.specs.OfMachine.Running.{Does, MayAskForMemory};
-ghost use Rattle.mh_script.specs.OfMachine.Stop.{Stop};
-ghost use Rattle.mh_embed.specs.Drivers.{AreKept, first_collected};
-ghost use Rattle.mh_embed.specs.Kept.{IsCounted};
-ghost use Rattle.mh_embed.specs.Numbers.{units_between};
 
 use crate::numbers::UnitNumbers;
 use mh_deeds::account::Account;
+use mh_machine::machine::{Machine, Stop};
 use mh_model::command::Event;
 use mh_model::config::Config;
 use mh_model::deed::Deed;
@@ -20,8 +18,7 @@ use mh_model::limits::MOST_EVENTS;
 use mh_model::memory::NoMemory;
 use mh_model::reply::Reply;
 use mh_model::report::Report;
-use mh_script::mh_machine::machine::{Machine, Stop};
-use mh_script::mh_scan::scan::OneScan;
+use mh_scan::scan::OneScan;
 use std::alloc::Global;
 use std::marker::Model;
 use std::mem;
@@ -39,8 +36,7 @@ pub struct CollectingMachine {
 }
 
 impl Model for CollectingMachine {
-    ghost use Rattle.mh_embed.specs.Drivers.{Collected};
-    ghost use Rattle.mh_embed.specs.Kept.{deeds_in};
+    ghost use Rattle.mh_embed.specs.{Drivers.Collected, Kept.deeds_in};
 
     ghost Value = { Collected };
 
@@ -82,7 +78,7 @@ fn units_since(before: Counts, machine: &Machine) -> UnitNumbers
 
 impl CollectingMachine {
     ghost use Rattle.mh_embed.specs.Drivers.{Collecting, Forgetting, Reserving};
-    ghost use Rattle.mh_trace_laws.specs.Forgetting.{KeepsPromise};
+    ghost use Rattle.mh_run_laws.specs.Forgetting.{KeepsPromise};
 
     /// The machine of a configuration before its first event.
     pub fn open(alloc: Global, config: Config) -> Result<CollectingMachine, NoMemory>

@@ -1,7 +1,7 @@
 //! The configuration that numbers are, with the number of its rules, if they are within the limits.
 ghost use Rattle.std.specs.Prelude.{◌≡◌};
-ghost use Rattle.mh_embed.specs.Configs as numbers;
 ghost use Rattle.mh_model.specs.HistoryTexts.{rules_of};
+ghost use Rattle.mh_embed.specs.Configs as numbers;
 
 use mh_model::config::{Config, Rules};
 use mh_model::limits::LEAST_QUANTUM;

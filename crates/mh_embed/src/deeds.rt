@@ -1,10 +1,10 @@
 //! Deeds, shown as numbers. Each number of a deed is in them, and each kind of a deed has a number of its own. What the
 //! sweep did with a slot is a kind.
 ghost use Rattle.std.specs.Prelude.{◌≡◌, ◌∷◌, []};
-ghost use Rattle.mh_model.specs.declared.deed.Deed.TheVariants as model;
 ghost use Rattle.mh_model.specs.Deeds.{deed_units};
-ghost use Rattle.mh_embed.specs.Numbers as numbers;
 ghost use Rattle.mh_embed.specs.Numbers.{IsDeedShownBy, capped, padded_deed};
+ghost use Rattle.mh_model.specs.declared.deed.Deed.TheVariants as model;
+ghost use Rattle.mh_embed.specs.Numbers as numbers;
 
 use crate::numbers::DeedNumbers;
 use mh_model::deed::{Deed, Edge, Fate, PartName, Tier};

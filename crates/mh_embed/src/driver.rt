@@ -1,14 +1,14 @@
 //! What is behind a handle: a machine, or a world in its place, which has no controls.
 ghost use Rattle.std.specs.Prelude.{◌≡◌, IfOk, IfErr, OnErr};
-ghost use Rattle.mh_embed.specs.declared.driver.Driver.TheVariants as driven;
 ghost use Rattle.mh_embed.specs.Driving.{IsUndone, Takes};
+ghost use Rattle.mh_embed.specs.declared.driver.Driver.TheVariants as driven;
 
 use crate::collecting::CollectingMachine;
 use crate::status::Status;
 use mh_live::growing::GrowingWorld;
+use mh_machine::machine::Stop;
 use mh_model::command::Event;
 use mh_model::reply::Reply;
-use mh_script::mh_machine::machine::Stop;
 
 /// A machine or a world.
 #[derive(Drop)]

@@ -2,9 +2,9 @@
 //! reply to an event is the machine's, or the world's. If an event isn't done, all is as it was, and the status says why.
 //! A text that doesn't fit, or for which memory is refused, leaves the reply to be asked for again.
 ghost use Rattle.std.specs.Prelude.{◌≡◌, IfOk};
-ghost use Rattle.mh_model.specs.declared.command.Control.TheVariants as controls;
 ghost use Rattle.mh_model.specs.Script.{line_of};
 ghost use Rattle.mh_embed.specs.Driving.{without_newline};
+ghost use Rattle.mh_model.specs.declared.command.Control.TheVariants as controls;
 
 use crate::collecting::CollectingMachine;
 use crate::deeds::deed_numbers;
@@ -15,12 +15,12 @@ use crate::replied::Replied;
 use crate::shown::reply_numbers;
 use crate::status::Status;
 use mh_live::growing::GrowingWorld;
-use mh_live::mh_text::line::{Line, line_of};
-use mh_live::names::Names;
+use mh_live::names::SessionNames;
 use mh_model::command::Event;
 use mh_model::config::Config;
 use mh_model::memory::NoMemory;
 use mh_model::reply::Reply;
+use mh_text::line::{Line, line_of};
 use std::alloc::Global;
 use std::marker::Model;
 
@@ -28,7 +28,7 @@ use std::marker::Model;
 #[derive(Drop)]
 pub struct Embedded {
     pub(crate) driver: Driver,
-    names: Names,
+    names: SessionNames,
     replied: Replied,
 }
 
@@ -60,7 +60,7 @@ impl Embedded {
     {
         Ok(Embedded {
             driver: Driver::Collects(CollectingMachine::open(alloc, config)?),
-            names: Names::new(),
+            names: SessionNames::new(),
             replied: Replied::new(alloc),
         })
     }
@@ -71,7 +71,7 @@ impl Embedded {
     {
         Embedded {
             driver: Driver::Grows(GrowingWorld::open(alloc, config)),
-            names: Names::new(),
+            names: SessionNames::new(),
             replied: Replied::new(alloc),
         }
     }

@@ -4,8 +4,8 @@ ghost use Rattle.std.specs.Prelude.{◌≡◌, ◌⊎◌, ◌≤◌};
 ghost use Rattle.mh_embed.specs.Numbers.{command_numbered, control_numbered, event_numbered};
 
 use crate::numbers::EventNumbers;
-use mh_live::mh_text::word::small;
 use mh_model::command::{Command, Control, Event};
+use mh_text::word::small;
 
 /// A command with three numbers: `new`, `get`, `put` or `write`.
 fn long_command(numbers: EventNumbers) -> Option<Command>

@@ -2,9 +2,9 @@
 //! event has numbers, and memory is refused to no event for which there is room.
 ghost use Rattle.mh_embed.specs.Laws.{CallsKeepThePromise, EndsAreCalls, EventsHaveNumbers, LinesAreTurns, ReservedEventsAreNotRefusedMemory};
 
+use mh_machine::reserved::reserved_events_ask_for_no_memory;
 use mh_promise::replays::events_keep_the_replay;
-use mh_script::mh_machine::reserved::reserved_events_ask_for_no_memory;
-use mh_trace_laws::{events_keep_what_is_recalled, forgotten_traces_keep_their_promise};
+use mh_run_laws::forgetting::{events_keep_what_is_recalled, forgotten_traces_keep_their_promise};
 
 /// Calls on the machine of a configuration keep the promise, also if its trace is forgotten between them. It is that of the
 /// events that they did, as numbers or by lines, and of the replies to these.

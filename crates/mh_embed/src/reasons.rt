@@ -5,10 +5,10 @@ ghost use Rattle.mh_embed.specs.Endings.{ReasonEnds};
 
 use crate::replied::give;
 use crate::status::Status;
-use mh_live::mh_text::line::{Line, line_of};
 use mh_model::memory::NoMemory;
-use mh_script::mh_reasons::line::line_reason;
-use mh_script::mh_reasons::reason::LineReason;
+use mh_reasons::line::line_reason;
+use mh_reasons::reason::LineReason;
+use mh_text::line::{Line, line_of};
 use std::alloc::Global;
 use std::fmt::Write;
 

@@ -1,18 +1,16 @@
 //! The reply to the last event, with room for the text of one. A text that doesn't fit, or for which memory is refused,
 //! leaves it to be asked for again.
-ghost use Rattle.std.specs.Prelude.{◌≡◌, Some, OnOk, is_some};
-ghost use Rattle.std.specs.String.{string_bytes};
+ghost use Rattle.std.specs.{Prelude.{◌≡◌, Some, OnOk, is_some}, String.string_bytes};
 ghost use Rattle.mh_model.specs.Replies.{reply_text};
-ghost use Rattle.mh_embed.specs.Endings.{IsGiven};
-ghost use Rattle.mh_embed.specs.Numbers.{items_of};
+ghost use Rattle.mh_embed.specs.{Endings.IsGiven, Numbers.items_of};
 
 use crate::numbers::{ItemNumbers, ReplyNumbers};
 use crate::shown::{item_numbers, reply_numbers};
 use crate::status::Status;
-use mh_live::mh_text::reply_text::ReplyText;
 use mh_model::dump::DumpItem;
 use mh_model::memory::NoMemory;
 use mh_model::reply::Reply;
+use mh_text::reply_text::ReplyText;
 use std::alloc::Global;
 use std::fmt::Write;
 use std::marker::Model;

@@ -1,9 +1,9 @@
 //! Replies and the items of dumps, shown as numbers. All of a reply is in its numbers but the items of a dump, which
 //! are asked for one by one.
 ghost use Rattle.std.specs.Prelude.{◌≡◌, ◌∷◌, []};
+ghost use Rattle.mh_embed.specs.Numbers.{IsItemShownBy, IsShownBy, padded};
 ghost use Rattle.mh_model.specs.declared.reply.Reply.TheVariants as reply;
 ghost use Rattle.mh_embed.specs.Numbers as numbers;
-ghost use Rattle.mh_embed.specs.Numbers.{IsItemShownBy, IsShownBy, padded};
 
 use crate::numbers::{ItemNumbers, ReplyNumbers};
 use mh_model::dump::DumpItem;

@@ -1,9 +1,7 @@
 -- The names `s0`, `s1` and so on, and the numbers that sessions have by them if they are first used in this order.
 use Rattle.std.proofs.Common.{◌≡◌, ◌∙◌, ℕ, zero, suc, ◌+◌, ◌-◌, ◌<◌, ◌≤◌, ◌≢◌, ◌^◌, nat_lt, nat_le, min, cond, ◌||◌, Bool, true, false, List, [], ◌∷◌, ◌++◌, length, ap, subst, refl, decimal, arith}
-use Rattle.std.proofs.lemmas.Bool.{ltb-true, ltb-false}
-use Rattle.std.proofs.lemmas.Fmt.{decimal_injective}
-use Rattle.mh_model.specs.Bytes.{Text, is_text}
-use Rattle.mh_model.specs.Script.{session_number, with_name}
+use Rattle.std.proofs.{lemmas.Bool.{ltb-true, ltb-false}, lemmas.Fmt.decimal_injective}
+use Rattle.mh_model.specs.{Bytes.{Text, is_text}, Script.{session_number, with_name}}
 use Rattle.mh_model.proofs.TextLemmas.{text_is, text_itself}
 
 abbrev pub session_name : ℕ → Text

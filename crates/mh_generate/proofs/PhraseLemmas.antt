@@ -1,11 +1,8 @@
 -- How commands and controls are written: in words, and in few bytes.
 use Rattle.std.proofs.Common.{◌≡◌, ℕ, ◌+◌, ◌<◌, ◌≤◌, nat_lt, nat_le, ◌&&◌, if◌then◌else◌, Bool, true, false, List, [], ◌∷◌, length, map, refl, decimal, arith, length-append}
-use Rattle.std.proofs.lemmas.Bool.{and_parts, and_from, ltb-true, leb-true}
-use Rattle.std.proofs.lemmas.Fmt.{length-decimal-le}
+use Rattle.std.proofs.{lemmas.Bool.{and_parts, and_from, ltb-true, leb-true}, lemmas.Fmt.length-decimal-le}
 use Rattle.std.specs.List.{list_all}
-use Rattle.mh_model.specs.declared.command.Command.{Command}
-use Rattle.mh_model.specs.declared.command.Control.{Control}
-use Rattle.mh_model.specs.Bytes.{Text, joined}
+use Rattle.mh_model.specs.{declared.command.Command.Command, declared.command.Control.Control, Bytes.{Text, joined}}
 use Rattle.mh_model.specs.Forms.{Phrase, are_below, command_phrase, control_phrase, is_sayable, phrase_words, u32, u64}
 use Rattle.mh_text_laws.proofs.PhraseLemmas.{command_passes, control_passes}
 use Rattle.mh_text_laws.proofs.round_trips.ReplyRoundTrips.{small_numbers}

@@ -3,21 +3,14 @@ use Rattle.std.proofs.Common.{◌≡◌, ◌∙◌, ℕ, suc, ◌+◌, if◌then
 use Rattle.std.proofs.lemmas.Bool.{and_parts, and_from, lt-ltb, leb-true, leb-false, le-leb, le-ltb}
 use Rattle.std.proofs.lemmas.Fmt.{decimal_digit}
 use Rattle.std.specs.List.{list_all}
-use Rattle.mh_model.specs.declared.command.Event.{Event}
-use Rattle.mh_model.specs.declared.command.Event.TheVariants as event
-use Rattle.mh_model.specs.declared.config.Config.{Config}
-use Rattle.mh_model.specs.declared.config.Rules.{Rules}
-use Rattle.mh_model.specs.declared.config.Rules.TheVariants.{Second}
-use Rattle.mh_model.specs.declared.history.Version.TheVariants.{Two}
-use Rattle.mh_model.specs.Bytes.{Text, is_digit, is_letter, is_name, words}
-use Rattle.mh_model.specs.Configs.{configured_under}
+use Rattle.mh_model.specs.{declared.command.Event.Event, declared.config.Config.Config, declared.config.Rules.Rules}
+use Rattle.mh_model.specs.{declared.config.Rules.TheVariants.Second, declared.history.Version.TheVariants.Two}
+use Rattle.mh_model.specs.{Bytes.{Text, is_digit, is_letter, is_name, words}, Configs.configured_under}
 use Rattle.mh_model.specs.Forms.{command_phrase, control_phrase, is_sayable, knows_control, phrase_words, u64}
-use Rattle.mh_model.specs.HistoryTexts.{event_words, is_event}
-use Rattle.mh_model.specs.Replies.{are_u64}
+use Rattle.mh_model.specs.{HistoryTexts.{event_words, is_event}, Replies.are_u64}
 use Rattle.mh_model.specs.Script.{Asks, Calls, Line, Means, Reading, after_config, config_of, config_words, events_from, line_of, line_words, reading, reading_map, script_from, script_of, with_event, with_name}
 use Rattle.mh_model.proofs.ConfigLemmas.{configured-within}
-use Rattle.mh_text_laws.proofs.ListLemmas.{all-map}
-use Rattle.mh_text_laws.proofs.round_trips.HeaderRoundTrips.{config_limits}
+use Rattle.mh_text_laws.proofs.{ListLemmas.all-map, round_trips.HeaderRoundTrips.config_limits}
 use Rattle.mh_text_laws.proofs.round_trips.HistoryRoundTrips.{cut-text}
 use Rattle.mh_text_laws.proofs.round_trips.ReplyRoundTrips.{command_of-words, control_of-words}
 use Rattle.mh_text_laws.proofs.round_trips.WordRoundTrips.{all-decimals, are_free, are_words, decimal_word, is_free, is_word, joined_free, numbers-decimal, words-joined}
@@ -31,10 +24,10 @@ small_who : (who : ℕ) → nat_le who 8 ≡ true → who < 2 ^ 64
 small_who who h = omega (arith, leb-true who 8 h)
 
 pub event_are_words : (e : Event) → is_event Two e ≡ true → are_words (event_words e) ≡ true
-event_are_words (event.Session who c) h =
+event_are_words (Event.Session who c) h =
     let both = and_parts (nat_le who 8) (is_sayable (command_phrase c)) h in
     and_from _ _ (and_from _ _ refl (decimal_word who (small_who who both.0))) (phrase_are_words (command_phrase c) (fine_command c) both.1)
-event_are_words (event.Control c) h =
+event_are_words (Event.Control c) h =
     and_from _ _ refl (phrase_are_words (control_phrase c) (fine_control c) (and_parts (knows_control Two c) (is_sayable (control_phrase c)) h).1)
 
 -- Names ------------------------------------------------------------------------------------------
@@ -55,24 +48,24 @@ name_is who few =
 
 -- what the line of an event says
 abbrev line_said : Event → Line
-line_said (event.Session who c) = Calls (session_name who) c
-line_said (event.Control c) = Asks c
+line_said (Event.Session who c) = Calls (session_name who) c
+line_said (Event.Control c) = Asks c
 
 words_said : (e : Event) → is_event Two e ≡ true → line_words (event_words e) ≡ line_said e
-words_said (event.Session who c) h =
+words_said (Event.Session who c) h =
     let both = and_parts (nat_le who 8) (is_sayable (command_phrase c)) h in
     rw (name_is who both.0, command_of-words c both.1) refl
-words_said (event.Control c) h =
+words_said (Event.Control c) h =
     let both = and_parts (knows_control Two c) (is_sayable (control_phrase c)) h in
     rw (control_of-words Two c both.0 both.1) refl
 
 words-line : (e : Event) → is_event Two e ≡ true → words (event_line e) ≡ event_words e
-words-line (event.Session who c) h = words-joined (session_name who) (phrase_words (command_phrase c)) (event_are_words (event.Session who c) h)
-words-line (event.Control c) h = words-joined (codes "*") (phrase_words (control_phrase c)) (event_are_words (event.Control c) h)
+words-line (Event.Session who c) h = words-joined (session_name who) (phrase_words (command_phrase c)) (event_are_words (Event.Session who c) h)
+words-line (Event.Control c) h = words-joined (codes "*") (phrase_words (control_phrase c)) (event_are_words (Event.Control c) h)
 
 line-unblank : (e : Event) → line_of (event_line e) ≡ line_words (words (event_line e))
-line-unblank (event.Session who c) = refl
-line-unblank (event.Control c) = refl
+line-unblank (Event.Session who c) = refl
+line-unblank (Event.Control c) = refl
 
 pub line_of-event : (e : Event) → is_event Two e ≡ true → line_of (event_line e) ≡ line_said e
 line_of-event e h = line-unblank e ∙ ap line_words (words-line e h) ∙ words_said e h
@@ -80,23 +73,23 @@ line_of-event e h = line-unblank e ∙ ap line_words (words-line e h) ∙ words_
 -- Events -----------------------------------------------------------------------------------------
 
 named-few : (named : ℕ) (e : Event) → named ≤ 8 → named_after named e ≤ 8
-named-few named (event.Session who c) few = go (nat_lt who named) (nat_le 8 named) refl where
+named-few named (Event.Session who c) few = go (nat_lt who named) (nat_le 8 named) refl where
   go : (s f : Bool) → nat_le 8 named ≡ f → (if s || f then named else suc named) ≤ 8
   go true f is = few
   go false true is = few
   go false false is = omega (arith, leb-false 8 named is)
-named-few named (event.Control c) few = few
+named-few named (Event.Control c) few = few
 
 step_event : (named n : ℕ) (e : Event) (lines : List Line) → named ≤ 8 → is_event Two e ≡ true → is_next named e ≡ true
     → events_from (first_names named) n (line_said e ∷ lines) [] ≡ with_event e (events_from (first_names (named_after named e)) (suc n) lines [])
-step_event named n (event.Session who c) lines few known next =
+step_event named n (Event.Session who c) lines few known next =
     let both = and_parts (nat_le who 8) (is_sayable (command_phrase c)) known in
     let small : who < 2 ^ 64 = small_who who both.0 in
     let low : who ≤ named = leb-true who named next in
     let more : List Text → Reading (List Event) = λ names. events_from names (suc n) lines [] in
-    ap (λ (number : ℕ). with_event (event.Session number c) (more (with_name (first_names named) (session_name who)))) (number-first named who low small)
-    ∙ ap (λ (names : List Text). with_event (event.Session who c) (more names)) (with_name-first named who low small few)
-step_event named n (event.Control c) lines few known next = refl
+    ap (λ (number : ℕ). with_event (Event.Session number c) (more (with_name (first_names named) (session_name who)))) (number-first named who low small)
+    ∙ ap (λ (names : List Text). with_event (Event.Session who c) (more names)) (with_name-first named who low small few)
+step_event named n (Event.Control c) lines few known next = refl
 
 events_from-lines : (named n : ℕ) (events : List Event) → named ≤ 8 → list_all (is_event Two) events ≡ true → are_in_order named events ≡ true
     → events_from (first_names named) n (map line_of (map event_line events)) [] ≡ Means events

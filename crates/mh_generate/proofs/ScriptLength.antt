@@ -1,13 +1,9 @@
 -- A script of 1,000,000 events is short enough to be read.
 use Rattle.std.proofs.Common.{◌≡◌, ◌+◌, ◌*◌, ◌≤◌, nat_le, true, List, [], ◌∷◌, ◌++◌, length, map, ap, refl, codes, arith, length-append}
-use Rattle.std.proofs.lemmas.Bool.{and_parts, and_from, leb-true, lt-ltb}
-use Rattle.std.proofs.lemmas.Fmt.{decimal_digit}
+use Rattle.std.proofs.{lemmas.Bool.{and_parts, and_from, leb-true, lt-ltb}, lemmas.Fmt.decimal_digit}
 use Rattle.std.specs.List.{list_all}
-use Rattle.mh_model.specs.declared.command.Event.{Event}
-use Rattle.mh_model.specs.declared.command.Event.TheVariants as event
-use Rattle.mh_model.specs.declared.config.Config.{Config}
-use Rattle.mh_model.specs.declared.history.Version.TheVariants.{Two}
-use Rattle.mh_model.specs.Bytes.{Text, joined, lines_text}
+use Rattle.mh_model.specs.{declared.command.Event.Event, declared.config.Config.Config}
+use Rattle.mh_model.specs.{declared.history.Version.TheVariants.Two, Bytes.{Text, joined, lines_text}}
 use Rattle.mh_model.specs.Forms.{are_below, command_phrase, control_phrase, is_sayable, knows_control, phrase_words, u32}
 use Rattle.mh_model.specs.HistoryTexts.{is_event}
 use Rattle.mh_text_laws.proofs.round_trips.HeaderRoundTrips.{config_limits}
@@ -17,11 +13,11 @@ use Rattle.mh_generate.specs.Scripts.{config_line, config_numbers, event_line, s
 
 -- a line of an event has 63 bytes at most
 event_length : (e : Event) → is_event Two e ≡ true → length (event_line e) ≤ 63
-event_length (event.Session who c) h =
+event_length (Event.Session who c) h =
     let both = and_parts (nat_le who 8) (is_sayable (command_phrase c)) h in
     let digit = ap length (decimal_digit who (omega (arith, leb-true who 8 both.0))) in
     omega (arith, digit, phrase_length (command_phrase c) (fine_command c) both.1, length-append (session_name who) (32 ∷ joined (phrase_words (command_phrase c))))
-event_length (event.Control c) h =
+event_length (Event.Control c) h =
     let both = and_parts (knows_control Two c) (is_sayable (control_phrase c)) h in
     omega (arith, phrase_length (control_phrase c) (fine_control c) both.1, length-append (codes "*") (32 ∷ joined (phrase_words (control_phrase c))))
 

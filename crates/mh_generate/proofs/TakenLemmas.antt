@@ -1,31 +1,25 @@
 -- Commands of which a heap that never collects refuses none, and one that it never refuses.
 use Rattle.std.proofs.Common.{◌≡◌, ◌∙◌, ℕ, zero, suc, ap, sym, refl, Bool, true, false, not, List, [], ◌∷◌, ◌++◌, Option, Some, None, set, get_or, true≢false, subst}
 use Rattle.std.proofs.lemmas.Bool.{and_parts, and_from}
-use Rattle.mh_model.specs.declared.command.Command.{Command}
-use Rattle.mh_model.specs.declared.command.Command.TheVariants as command
-use Rattle.mh_model.specs.declared.command.Event.{Event}
-use Rattle.mh_model.specs.declared.command.Event.TheVariants as event
-use Rattle.mh_model.specs.declared.reply.Reply.{Reply}
-use Rattle.mh_model.specs.declared.reply.Refusal.{Refusal}
-use Rattle.std.specs.Prelude.{Result, Ok, Err, IfOk, OnErr}
-use Rattle.mh_heap.specs.PlainShown.{plain_showing}
-use Rattle.mh_heap.specs.Shown.{Showing}
-use Rattle.mh_model.specs.declared.memory.NoMemory.{NoMemory}
+use Rattle.mh_model.specs.{declared.command.Command.Command, declared.command.Event.Event, declared.reply.Reply.Reply}
+use Rattle.mh_model.specs.{declared.reply.Refusal.Refusal, declared.memory.NoMemory.NoMemory}
 use Rattle.mh_model.specs.World.{Answer, Object, Performs, World, effect, heap_step, names_same, never_full, refusal, says, sight_of, slot_at, unless_refused, with_change, world_step, yes_or_no}
+use Rattle.std.specs.Prelude.{Result, Ok, Err, IfOk, OnErr}
+use Rattle.mh_heap.specs.{PlainShown.plain_showing, Shown.Showing}
 use Rattle.mh_generate.specs.Taken.{are_taken, ends_first, is_first_here, is_refused, is_taken, world_then}
 
 -- Refused commands -------------------------------------------------------------------------------
 
 effect-refused : (world : World) (who : ℕ) (c : Command) → is_refused (effect world who c).reply ≡ true → (effect world who c).state ≡ world
-effect-refused world who (command.New slot references numbers) e = cc
-effect-refused world who (command.Get slot source field) e = cc
-effect-refused world who (command.Put slot field value) e = cc
-effect-refused world who (command.Copy slot source) e = cc
-effect-refused world who (command.Clear slot) e = cc
-effect-refused world who (command.Read slot index) e = refl
-effect-refused world who (command.Write slot index number) e = cc
-effect-refused world who (command.Same left right) e = refl
-effect-refused world who (command.Shape slot) e = refl
+effect-refused world who (Command.New slot references numbers) e = cc
+effect-refused world who (Command.Get slot source field) e = cc
+effect-refused world who (Command.Put slot field value) e = cc
+effect-refused world who (Command.Copy slot source) e = cc
+effect-refused world who (Command.Clear slot) e = cc
+effect-refused world who (Command.Read slot index) e = refl
+effect-refused world who (Command.Write slot index number) e = cc
+effect-refused world who (Command.Same left right) e = refl
+effect-refused world who (Command.Shape slot) e = refl
 effect-refused world who asked e = cc
 
 -- a refused command leaves the world as it was
@@ -48,10 +42,10 @@ set_later [] who = refl
 set_later (x ∷ xs) who = refl
 
 effect-stays : (world : World) (who : ℕ) (c : Command) → ends_first who c ≡ false → get_or (effect world who c).state.ended 0 false ≡ get_or world.ended 0 false
-effect-stays world who (command.Put slot field value) e = ap (λ ended. get_or ended 0 false) (change-ended world _ _)
-effect-stays world who (command.Write slot index number) e = ap (λ ended. get_or ended 0 false) (change-ended world _ _)
-effect-stays world zero command.End e = absurd (true≢false e)
-effect-stays world (suc who) command.End e = set_later world.ended who
+effect-stays world who (Command.Put slot field value) e = ap (λ ended. get_or ended 0 false) (change-ended world _ _)
+effect-stays world who (Command.Write slot index number) e = ap (λ ended. get_or ended 0 false) (change-ended world _ _)
+effect-stays world zero Command.End e = absurd (true≢false e)
+effect-stays world (suc who) Command.End e = set_later world.ended who
 effect-stays world who other e = refl
 
 -- it stays by any other command
@@ -77,7 +71,7 @@ performed_refused old new who c reply performs refused =
 
 -- the command of the first session that is never refused, and does nothing
 abbrev pub nothing : Event
-nothing = event.Session 0 (command.Same 0 0)
+nothing = Event.Session 0 (Command.Same 0 0)
 
 here_not_ended : (world : World) → is_first_here world ≡ true → get_or world.ended 0 false ≡ false
 here_not_ended world here = go (get_or world.ended 0 false) refl here where
@@ -85,7 +79,7 @@ here_not_ended world here = go (get_or world.ended 0 false) refl here where
   go true is h = cc
   go false is h = refl
 
-pub nothing_is : (world : World) → is_first_here world ≡ true → world_step world 0 (command.Same 0 0) ≡ says (yes_or_no (names_same (slot_at world 0) (slot_at world 0))) world
+pub nothing_is : (world : World) → is_first_here world ≡ true → world_step world 0 (Command.Same 0 0) ≡ says (yes_or_no (names_same (slot_at world 0) (slot_at world 0))) world
 unfolding heap_step
 nothing_is world here = rw (here_not_ended world here) refl
 

@@ -1,40 +1,25 @@
 -- A script that is written event by event.
 use Rattle.std.proofs.Common.{◌≡◌, ◌∙◌, ℕ, zero, suc, ◌+◌, ◌-◌, ◌<◌, ◌≤◌, ◌%◌, ◌==◌, if◌then◌else◌, true, false, Bool, List, [], ◌∷◌, ◌++◌, length, map, Option, ap, sym, subst, refl, append-nil, length-append, arith}
-use Rattle.std.proofs.lemmas.Bool.{and_parts, and_from, le-leb, lt-ltb}
-use Rattle.std.proofs.lemmas.Grind.{flat_map-append}
+use Rattle.std.proofs.{lemmas.Bool.{and_parts, and_from, le-leb, lt-ltb}, lemmas.Grind.flat_map-append}
 use Rattle.std.proofs.lemmas.List.{map-append}
-use Rattle.std.specs.List.{list_all}
-use Rattle.std.specs.Io.KnownBytes.{Appends}
-use Rattle.mh_model.specs.declared.command.Control.TheVariants as control
-use Rattle.mh_model.specs.declared.command.Event.{Event}
-use Rattle.mh_model.specs.declared.command.Event.TheVariants as event
-use Rattle.mh_model.specs.declared.config.Config.{Config}
-use Rattle.mh_model.specs.declared.config.Rules.{Rules}
-use Rattle.mh_model.specs.declared.config.Rules.TheVariants.{First, Second}
-use Rattle.mh_model.specs.declared.history.Version.TheVariants.{Two}
-use Rattle.mh_model.specs.Bytes.{Text, line_text, lines_text}
-use Rattle.mh_model.specs.Configs.{with_rules}
-use Rattle.mh_model.specs.HistoryTexts.{is_event}
-use Rattle.mh_model.specs.World.{World, first_world}
-use Rattle.mh_text.specs.Stream.{AppendsBeginning}
+use Rattle.std.specs.{List.list_all, Prelude.{Result, Ok, IsErrAnd}}
+use Rattle.mh_model.specs.{declared.command.Event.Event, declared.config.Config.Config, declared.config.Rules.Rules}
+use Rattle.mh_model.specs.{declared.config.Rules.TheVariants.{First, Second}, declared.history.Version.TheVariants.Two}
+use Rattle.mh_model.specs.{Bytes.{Text, line_text, lines_text}, Configs.with_rules, HistoryTexts.is_event}
+use Rattle.mh_model.specs.{World.{World, first_world}, declared.command.Control.Control}
+use Rattle.mh_text.specs.Devices.{Device, FailsAt, Takes}
 use Rattle.mh_text_laws.proofs.ListLemmas.{all-append, all_weaker}
-use Rattle.mh_script.specs.Texts.{Buffers}
-use Rattle.mh_script.proofs.AddedLines.{AppendsBeginning-nothing}
-use Rattle.mh_script.proofs.BufferLemmas.{AppendsBeginning-after, AppendsBeginning-buffers, Appends-buffers, Buffers-more, Buffers-trans}
-use Rattle.std.proofs.KnownBytes.{Appends-nil}
+use Rattle.mh_script.specs.{Texts.TakesIn, declared.fault.WriteError.WriteError}
+use Rattle.mh_script.proofs.TakenLemmas.{in-all, in-fails, in-more, in-some, in-trans, in-waiting, writing-fails, writing-stops}
 use Rattle.mh_orders.specs.declared.generate_options.Controls.{Controls}
 use Rattle.mh_orders.specs.declared.generate_options.Controls.TheVariants.{ByChance, Each, Never}
-use Rattle.mh_orders.specs.declared.generate_options.Options.{Options}
-use Rattle.mh_orders.specs.declared.profile.Profile.{Profile}
+use Rattle.mh_orders.specs.declared.{generate_options.Options.Options, profile.Profile.Profile}
 use Rattle.mh_orders.specs.declared.profile.Profile.TheVariants.{Refusals, Mixed}
 use Rattle.mh_generate.specs.Asked.{all_numbered, is_command, is_quantum, is_timed, version_under, writes_its_number}
-use Rattle.mh_generate.specs.Generated.{IsAsked, WritesAsked}
-use Rattle.mh_generate.specs.Profiles.{has_acts, named_by}
+use Rattle.mh_generate.specs.{Generated.{IsAsked, WritesAsked}, Profiles.{has_acts, named_by}}
 use Rattle.mh_generate.specs.Scripts.{are_in_order, config_line, event_line, is_below, is_next, named_after, named_after_all, script_text}
 use Rattle.mh_generate.specs.Taken.{are_taken, is_first_here, is_taken, world_then}
-use Rattle.mh_generate.proofs.ReadBack.{reading-script}
-use Rattle.mh_generate.proofs.SaidLemmas.{writes-others}
-use Rattle.mh_generate.proofs.ScriptLength.{script_length}
+use Rattle.mh_generate.proofs.{ReadBack.reading-script, SaidLemmas.writes-others, ScriptLength.script_length}
 use Rattle.mh_generate.proofs.TakenLemmas.{nothing, nothing_taken, nothing_unchanged, taken-append, world_after, world_after-append}
 
 -- Events -----------------------------------------------------------------------------------------
@@ -82,9 +67,9 @@ none_fit options = record { known = refl; order = refl; below = refl; timed = re
 
 known_two : (rules : Rules) (e : Event) → is_event (version_under rules) e ≡ true → is_event Two e ≡ true
 known_two Second e h = h
-known_two First (event.Session who c) h = h
-known_two First (event.Control control.Left) h = refl
-known_two First (event.Control other) h = h
+known_two First (Event.Session who c) h = h
+known_two First (Event.Control Control.Left) h = refl
+known_two First (Event.Control other) h = h
 
 asked_of : (options : Options) (events : List Event) → AreFit options events → length events ≡ options.events → IsAsked options (script_text options.config events)
 asked_of options events fit count =
@@ -106,7 +91,7 @@ asked_of options events fit count =
 -- the event with this number is a quantum if one is asked for there, and else nothing
 filler : Controls → ℕ → Event
 filler ByChance number = nothing
-filler (Each events) number = if number % events == 0 then event.Control control.Quantum else nothing
+filler (Each events) number = if number % events == 0 then Event.Control Control.Quantum else nothing
 filler Never number = nothing
 
 fillers : Controls → ℕ → ℕ → List Event
@@ -119,12 +104,12 @@ length-fillers controls number zero = refl
 length-fillers controls number (suc n) = omega (arith, length-fillers controls (suc number) n)
 
 -- what holds of a quantum and of nothing holds of each
-filler-is : (P : Event → Type 0) (controls : Controls) (number : ℕ) → P (event.Control control.Quantum) → P nothing → P (filler controls number)
+filler-is : (P : Event → Type 0) (controls : Controls) (number : ℕ) → P (Event.Control Control.Quantum) → P nothing → P (filler controls number)
 unfolding filler
 filler-is P ByChance number quantum none = none
 filler-is P Never number quantum none = none
 filler-is P (Each events) number quantum none = go (number % events == 0) where
-  go : (test : Bool) → P (if test then event.Control control.Quantum else nothing)
+  go : (test : Bool) → P (if test then Event.Control Control.Quantum else nothing)
   go true = quantum
   go false = none
 
@@ -133,12 +118,12 @@ unfolding filler
 filler-timed ByChance number = refl
 filler-timed Never number = refl
 filler-timed (Each events) number = go (number % events == 0) where
-  go : (test : Bool) → (if test then is_quantum (if test then event.Control control.Quantum else nothing) else is_command (if test then event.Control control.Quantum else nothing)) ≡ true
+  go : (test : Bool) → (if test then is_quantum (if test then Event.Control Control.Quantum else nothing) else is_command (if test then Event.Control Control.Quantum else nothing)) ≡ true
   go true = refl
   go false = refl
 
 module _ (controls : Controls) where
-  all-fillers : (p : Event → Bool) (number n : ℕ) → p (event.Control control.Quantum) ≡ true → p nothing ≡ true → list_all p (fillers controls number n) ≡ true
+  all-fillers : (p : Event → Bool) (number n : ℕ) → p (Event.Control Control.Quantum) ≡ true → p nothing ≡ true → list_all p (fillers controls number n) ≡ true
   unfolding fillers
   all-fillers p number zero quantum none = refl
   all-fillers p number (suc n) quantum none = and_from _ _ (filler-is (λ e. p e ≡ true) controls number quantum none) (all-fillers p (suc number) n quantum none)
@@ -173,7 +158,7 @@ below-most options = lt-ltb 0 (most_of options) (some_named options.profile opti
   some_named Mixed sessions some = omega arith
   some_named other sessions some = some
 
-known-fillers : (rules : Rules) → (is_event (version_under rules) (event.Control control.Quantum) ≡ true) × (is_event (version_under rules) nothing ≡ true)
+known-fillers : (rules : Rules) → (is_event (version_under rules) (Event.Control Control.Quantum) ≡ true) × (is_event (version_under rules) nothing ≡ true)
 known-fillers First = (refl, refl)
 known-fillers Second = (refl, refl)
 
@@ -201,22 +186,23 @@ begins_asked options events fit here few =
 -- Written ----------------------------------------------------------------------------------------
 
 -- so many events were chosen, in which so many sessions are named, and their script was written or waits
-pub record HasWritten (options : Options) (count named : ℕ) (world : World) (old new : Option Text) (buffer : Text) : Type 0 where
+pub record HasWritten (options : Options) (count named : ℕ) (world : World) (old new : Device) (buffer : Text) : Type 0 where
   pub events : List Event
   pub fit : AreFit options events
   pub here : is_first_here world ≡ true
   pub world_is : has_acts options.profile ≡ true → world ≡ world_after (world_of_options options) events
   pub counted : length events ≡ count
   pub named_is : named ≡ named_after_all 0 events
-  pub buffers : Buffers old new buffer (script_text options.config events)
+  pub taken : TakesIn old new buffer (script_text options.config events)
 
 -- nothing was written
-pub nothing_asked : (options : Options) (old : Option Text) → WritesAsked AppendsBeginning options old old
-nothing_asked options old =
+pub nothing_asked : (options : Options) (old : Device) (ended : Result Unit WriteError) → IsErrAnd ended (λ e. e ≡ WriteError.NoMemory) → WritesAsked options old old ended
+nothing_asked options old ended is =
     let begins = begins_asked options [] (none_fit options) (λ acts. refl) (omega arith) in
-    (_, begins.1, AppendsBeginning-nothing old _)
+    let waits : TakesIn old old [] [] = in-waiting old refl in
+    (_, begins.1, writing-stops ended is (in-some waits (script_text options.config [] ++ begins.0) refl))
 
-pub none_written : (options : Options) (named : ℕ) (world : World) (old : Option Text) (buffer : Text) → named ≡ 0 → world ≡ world_of_options options → buffer ≡ [] ++ line_text (config_line options.config)
+pub none_written : (options : Options) (named : ℕ) (world : World) (old : Device) (buffer : Text) → named ≡ 0 → world ≡ world_of_options options → buffer ≡ [] ++ line_text (config_line options.config)
     → HasWritten options 0 named world old old buffer
 none_written options named world old buffer none first is = record {
   events = [];
@@ -225,10 +211,10 @@ none_written options named world old buffer none first is = record {
   world_is = λ acts. first;
   counted = refl;
   named_is = none;
-  buffers = ([], Appends-nil old, is ∙ sym (append-nil (line_text (config_line options.config))));
+  taken = in-waiting old (is ∙ sym (append-nil (line_text (config_line options.config))));
 }
 
-module _ {options : Options} {count named : ℕ} {world : World} {old new : Option Text} {buffer : Text} (has : HasWritten options count named world old new buffer) where
+module _ {options : Options} {count named : ℕ} {world : World} {old new : Device} {buffer : Text} (has : HasWritten options count named world old new buffer) where
   -- an event more
   pub more_written : (e : Event) (number most named' : ℕ) (world' : World) (longer : Text) → number ≡ count + 1 → is_event (version_under options.rules) e ≡ true → is_next named e ≡ true → most ≡ most_of options
       → is_below most e ≡ true → is_timed options.controls number e ≡ true → writes_its_number options.profile number e ≡ true → (has_acts options.profile ≡ true → is_taken world e ≡ true)
@@ -251,11 +237,11 @@ module _ {options : Options} {count named : ℕ} {world : World} {old new : Opti
         world_is = λ acts. step acts ∙ (ap (λ (w : World). world_then w e) (has.world_is acts) ∙ sym (world_after-append (world_of_options options) has.events (e ∷ [])));
         counted = omega (arith, has.counted, length-append has.events (e ∷ []));
         named_is = named_is ∙ ap (λ (n : ℕ). named_after n e) has.named_is ∙ sym (named-append 0 has.events (e ∷ []));
-        buffers = Buffers-more old new buffer _ (line_text (event_line e)) longer _ has.buffers is
+        taken = in-more has.taken (line_text (event_line e)) is
             (script_text-append options.config has.events (e ∷ []) ∙ ap (λ (t : Text). script_text options.config has.events ++ t) (append-nil (line_text (event_line e))));
       }
 
-  pub written_on : (now : Option Text) (rest : Text) → Buffers new now rest buffer → HasWritten options count named world old now rest
+  pub written_on : (now : Device) (rest : Text) → TakesIn new now rest buffer → HasWritten options count named world old now rest
   written_on now rest wrote = record {
     events = has.events;
     fit = has.fit;
@@ -263,25 +249,25 @@ module _ {options : Options} {count named : ℕ} {world : World} {old new : Opti
     world_is = has.world_is;
     counted = has.counted;
     named_is = has.named_is;
-    buffers = Buffers-trans old new now rest buffer _ has.buffers wrote;
+    taken = in-trans has.taken wrote;
   }
 
   -- all was written
-  pub all_written : (now : Option Text) → count ≡ options.events → Appends new now buffer → WritesAsked Appends options old now
-  all_written now all wrote = (_, asked_of options has.events has.fit (has.counted ∙ all), Appends-buffers old new now buffer _ has.buffers wrote)
+  pub all_written : (now : Device) → count ≡ options.events → Takes new now buffer → WritesAsked options old now (Ok tt)
+  all_written now all wrote = (_, asked_of options has.events has.fit (has.counted ∙ all), in-all has.taken wrote)
 
   is_here : IsHere options has.events
   is_here = λ acts. subst (λ (w : World). is_first_here w ≡ true) (has.world_is acts) has.here
 
   module _ (few : count ≤ options.events) where
     -- no more was written
-    pub begun_written : WritesAsked AppendsBeginning options old new
-    begun_written =
+    pub begun_written : (ended : Result Unit WriteError) → IsErrAnd ended (λ e. e ≡ WriteError.NoMemory) → WritesAsked options old new ended
+    begun_written ended is =
         let begins = begins_asked options has.events has.fit is_here (omega (arith, has.counted)) in
-        (_, begins.1, AppendsBeginning-buffers old new buffer _ begins.0 _ has.buffers refl)
+        (_, begins.1, writing-stops ended is (in-some has.taken begins.0 refl))
 
     -- a prefix of what waits was
-    pub fails_written : (now : Option Text) → AppendsBeginning new now buffer → WritesAsked AppendsBeginning options old now
-    fails_written now begun =
+    pub fails_written : (now : Device) (ended : Result Unit WriteError) → IsErrAnd ended (λ e. e ≡ WriteError.Device) → FailsAt new now buffer → WritesAsked options old now ended
+    fails_written now ended is failed =
         let begins = begins_asked options has.events has.fit is_here (omega (arith, has.counted)) in
-        (_, begins.1, AppendsBeginning-after old new now buffer _ begins.0 _ has.buffers begun refl)
+        (_, begins.1, writing-fails ended is (in-fails has.taken begins.0 refl failed))

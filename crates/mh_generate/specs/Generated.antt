@@ -1,16 +1,12 @@
 -- What a script is that was asked for.
-use Rattle.std.specs.Prelude.{◌≡◌, true, length, Option}
-use Rattle.std.specs.List.{list_all}
-use Rattle.mh_model.specs.Bytes.{Text}
-use Rattle.mh_model.specs.Configs.{with_rules}
-use Rattle.mh_model.specs.HistoryTexts.{is_event}
-use Rattle.mh_model.specs.Script.{Meaning, Means, reading}
+use Rattle.std.specs.{Prelude.{◌≡◌, true, length, Result}, List.list_all}
+use Rattle.mh_model.specs.{Bytes.Text, Configs.with_rules, HistoryTexts.is_event, Script.{Meaning, Means, reading}}
 use Rattle.mh_model.specs.World.{first_world}
+use Rattle.mh_text.specs.Devices.{Device}
+use Rattle.mh_script.specs.{Texts.IsWriting, declared.fault.WriteError.WriteError}
 use Rattle.mh_orders.specs.declared.generate_options.Options.{Options}
 use Rattle.mh_generate.specs.Asked.{all_numbered, is_timed, version_under, writes_its_number}
-use Rattle.mh_generate.specs.Profiles.{has_acts, named_by}
-use Rattle.mh_generate.specs.Scripts.{is_below}
-use Rattle.mh_generate.specs.Taken.{are_taken}
+use Rattle.mh_generate.specs.{Profiles.{has_acts, named_by}, Scripts.is_below, Taken.are_taken}
 
 -- A text within the grammar that reads as a script with the configuration and as many events as are asked for: of no other sessions, with the controls
 -- that are asked for, and with no event that its rules don't know. If its commands come from acts, a heap that never collects refuses none of them
@@ -25,6 +21,6 @@ pub record IsAsked (options : Options) (text : Text) : Type 0 where
   pub writes : all_numbered (writes_its_number options.profile) 1 script.events ≡ true
   pub taken : has_acts options.profile ≡ true → are_taken (first_world (with_rules options.rules options.config)) script.events ≡ true
 
--- such a text was written, whole or a prefix of it
-abbrev pub WritesAsked : (Option Text → Option Text → Text → Type 0) → Options → Option Text → Option Text → Type 0
-WritesAsked Writes options old new = (text : Text) × IsAsked options text × Writes old new text
+-- Such a text was written, or as much of it as the device took, or memory allowed
+abbrev pub WritesAsked : Options → (old new : Device) → Result Unit WriteError → Type 0
+WritesAsked options old new ended = (text : Text) × IsAsked options text × IsWriting old new text ended

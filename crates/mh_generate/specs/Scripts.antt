@@ -1,10 +1,7 @@
 -- Scripts as they are written: a configuration, and events whose sessions have their numbers as names, in the order of first use.
 use Rattle.std.specs.Prelude.{ℕ, suc, nat_lt, nat_le, Bool, true, ◌&&◌, ◌||◌, if◌then◌else◌, List, [], ◌∷◌, map, codes, decimal}
-use Rattle.mh_model.specs.declared.config.Config.{Config}
-use Rattle.mh_model.specs.declared.command.Event.{Event}
-use Rattle.mh_model.specs.declared.command.Event.TheVariants as event
-use Rattle.mh_model.specs.Bytes.{Text, joined, lines_text}
-use Rattle.mh_model.specs.HistoryTexts.{event_words}
+use Rattle.mh_model.specs.{declared.config.Config.Config, declared.command.Event.Event}
+use Rattle.mh_model.specs.{Bytes.{Text, joined, lines_text}, HistoryTexts.event_words}
 
 -- the numbers of a configuration
 abbrev pub config_numbers : Config → List ℕ
@@ -26,13 +23,13 @@ script_text config events = lines_text (config_line config ∷ map event_line ev
 
 -- how many names were seen, eight at most, once an event more is
 abbrev pub named_after : ℕ → Event → ℕ
-named_after named (event.Session who command) = if nat_lt who named || nat_le 8 named then named else suc named
-named_after named (event.Control control) = named
+named_after named (Event.Session who command) = if nat_lt who named || nat_le 8 named then named else suc named
+named_after named (Event.Control control) = named
 
 -- the event's session is one that was seen, or the next
 abbrev pub is_next : ℕ → Event → Bool
-is_next named (event.Session who command) = nat_le who named
-is_next named (event.Control control) = true
+is_next named (Event.Session who command) = nat_le who named
+is_next named (Event.Control control) = true
 
 -- each event's is, so that sessions are first named in the order of their numbers
 abbrev pub are_in_order : ℕ → List Event → Bool
@@ -46,5 +43,5 @@ named_after_all named (event ∷ events) = named_after_all (named_after named ev
 
 -- the event is no command, or one of a session below this number
 abbrev pub is_below : ℕ → Event → Bool
-is_below most (event.Session who command) = nat_lt who most
-is_below most (event.Control control) = true
+is_below most (Event.Session who command) = nat_lt who most
+is_below most (Event.Control control) = true

@@ -2,11 +2,10 @@
 //! that is never refused does in its place. So that there is one, the first session stays.
 ghost use Rattle.std.specs.Prelude.{◌≡◌, ◌<◌, ◌≤◌, ◌+◌, true, IfOk};
 ghost use Rattle.mh_heap.specs.PlainHeap.{world_of};
-ghost use Rattle.mh_model.specs.declared.birth.TheConstants.{LIFE};
-ghost use Rattle.mh_model.specs.declared.command.Event.TheVariants as event;
-ghost use Rattle.mh_model.specs.Forms.{command_phrase, is_sayable};
+ghost use Rattle.mh_model.specs.{declared.birth.TheConstants.LIFE, Forms.{command_phrase, is_sayable}};
 ghost use Rattle.mh_model.specs.World.{births, first_world};
 ghost use Rattle.mh_generate.specs.Taken.{IsSaid, ends_first, is_first_here, is_refused, is_taken, world_then};
+ghost use Rattle.mh_model.specs.declared.command.Event.TheVariants as event;
 
 use mh_heap::perform::perform;
 use mh_heap::plain::PlainHeap;

@@ -3,17 +3,12 @@
 //! command is refused where a heap runs along.
 ghost use Rattle.std.specs.Prelude.{◌≡◌, ◌<◌, ◌≤◌, ◌+◌, true, ℕ, None, IfOk, IfSome};
 ghost use Rattle.mh_heap.specs.PlainHeap.{world_of};
-ghost use Rattle.mh_model.specs.Configs.{with_rules};
-ghost use Rattle.mh_model.specs.Forms.{command_phrase, is_sayable};
-ghost use Rattle.mh_model.specs.HistoryTexts.{is_event};
-ghost use Rattle.mh_model.specs.World.{births, first_world};
-ghost use Rattle.mh_model.specs.declared.birth.TheConstants.{LIFE};
+ghost use Rattle.mh_model.specs.{Configs.with_rules, Forms.{command_phrase, is_sayable}, HistoryTexts.is_event};
+ghost use Rattle.mh_model.specs.{World.{births, first_world}, declared.birth.TheConstants.LIFE};
 ghost use Rattle.mh_model.specs.declared.command.Command.{Command};
+ghost use Rattle.mh_generate.specs.{Asked.{is_timed, version_under, writes_its_number}, Profiles.{has_acts, named_by}};
+ghost use Rattle.mh_generate.specs.{Scripts.{is_below, is_next, named_after}, Taken.{IsSaid, is_taken, world_then}};
 ghost use Rattle.mh_model.specs.declared.command.Event.TheVariants as event;
-ghost use Rattle.mh_generate.specs.Asked.{is_timed, version_under, writes_its_number};
-ghost use Rattle.mh_generate.specs.Profiles.{has_acts, named_by};
-ghost use Rattle.mh_generate.specs.Scripts.{is_below, is_next, named_after};
-ghost use Rattle.mh_generate.specs.Taken.{IsSaid, is_taken, world_then};
 
 use crate::along::HeapAlong;
 use crate::names::Names;

@@ -7,9 +7,6 @@
 //! a prefix of such a script. A device failed exactly when it is blamed.
 //!
 //! Tests alone show that the same options give the same bytes, and what the scripts make the collector do.
-ghost use Rattle.std.specs.Prelude.{◌≡◌, ◌<◌, ◌^◌, OnOk, OnErr, IsErrOf};
-ghost use Rattle.std.specs.Io.KnownBytes.{Appends};
-ghost use Rattle.mh_text.specs.Stream.{AppendsBeginning};
 ghost use Rattle.mh_generate.specs.Generated.{WritesAsked};
 
 use crate::chooser::Chooser;
@@ -22,12 +19,7 @@ use std::alloc::Global;
 
 /// Writes the random script that is asked for. It depends on the options alone: the same options give the same bytes.
 pub fn generate<W: Sink>(alloc: Global, options: &Options, sink: &mut W) -> Result<(), WriteError>
-    requires { W.failures sink.old < 2 ^ 62 }
-    ensures done { OnOk result (WritesAsked Appends options.now (W.written sink.old) (W.written sink.new)) }
-    ensures begun { OnErr result (WritesAsked AppendsBeginning options.now (W.written sink.old) (W.written sink.new)) }
-    ensures no_failure { OnOk result (W.failures sink.new ≡ W.failures sink.old) }
-    ensures blamed { IsErrOf result WriteError.Device → W.failures sink.old < W.failures sink.new }
-    ensures not_blamed { IsErrOf result WriteError.NoMemory → W.failures sink.new ≡ W.failures sink.old }
+    ensures { WritesAsked options.now (W.device sink.old) (W.device sink.new) result }
 {
     let mut chooser = Chooser::new(alloc, *options);
     let mut text = String::new(alloc);

@@ -1,6 +1,5 @@
 //! Lines of scripts as they are written. An event is written as in a history, so a session is named by its number.
-ghost use Rattle.std.specs.Prelude.{◌≡◌, ◌++◌, ◌∷◌, OnOk, decimal, map};
-ghost use Rattle.std.specs.String.{string_bytes};
+ghost use Rattle.std.specs.{Prelude.{◌≡◌, ◌++◌, ◌∷◌, OnOk, decimal, map}, String.string_bytes};
 ghost use Rattle.mh_model.specs.Bytes.{joined, line_text};
 ghost use Rattle.mh_generate.specs.Scripts.{config_line, event_line};
 

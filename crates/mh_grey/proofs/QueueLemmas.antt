@@ -1,12 +1,9 @@
 -- The room of the queue, and how its invariant is kept.
 use Rattle.std.proofs.Common.{◌≡◌, ℕ, zero, suc, ◌*◌, ◌<◌, ◌≤◌, ◌==◌, ◌⊎◌, true, false, inl, inr, List, [], ◌∷◌, ◌++◌, length, drop, refl, arith}
-use Rattle.std.specs.List.{IsDistinct}
-use Rattle.std.specs.Prelude.{Result, Ok, Err, IsOk, OnOk, ◌↔◌}
-use Rattle.std.proofs.lemmas.Bool.{false≢true, eqb-true, or_right, or_cases}
-use Rattle.std.proofs.lemmas.Cmp.{nat_eq_equiv}
-use Rattle.std.proofs.lemmas.List.{length_push}
-use Rattle.std.proofs.lemmas.Map.Steps.{length-le_from_distinct_below}
+use Rattle.std.proofs.{lemmas.Bool.{false≢true, eqb-true, or_right, or_cases}, lemmas.Cmp.nat_eq_equiv}
+use Rattle.std.proofs.{lemmas.List.length_push, lemmas.Map.Steps.length-le_from_distinct_below}
 use Rattle.std.proofs.lemmas.Map.Keys.{IsDistinct-push, IsDistinct-tail}
+use Rattle.std.specs.{List.IsDistinct, Prelude.{Result, Ok, Err, IsOk, OnOk, ◌↔◌}}
 use Rattle.mh_grey.specs.Queue.{is_in, IsQueue}
 
 -- a place of a longer list was in it or is the new one

@@ -1,11 +1,9 @@
 -- Shading by cases.
 use Rattle.std.proofs.Common.{◌≡◌, ◌≢◌, ℕ, ◌⊎◌, Bool, true, false, inl, inr, List, [], ◌∷◌, ◌++◌, Option, Some, None, option_map, unwrap_or, IsSome, refl, eq-eqb}
 use Rattle.std.proofs.lemmas.Bool.{cases_eq, false≢true, ne_eqb}
-use Rattle.mh_model.specs.Pages.{Table, block_at}
-use Rattle.mh_model.specs.Table.{Block, resolve, stamp_at, with_stamp_at, LeadsOn}
+use Rattle.mh_model.specs.{Pages.{Table, block_at}, Table.{Block, resolve, stamp_at, with_stamp_at, LeadsOn}}
 use Rattle.mh_model.specs.Collector.{Marking, shade_block, shade_place, shade}
-use Rattle.mh_grey.specs.Queue.{is_in}
-use Rattle.mh_grey.specs.Shading.{IsApart, AreMarked}
+use Rattle.mh_grey.specs.{Queue.is_in, Shading.{IsApart, AreMarked}}
 
 -- a marked block stays as it is
 same_block : (m : Marking) (place : ℕ) (content : Option Block) → IsSome content → unwrap_or (option_map (λ b. b.stamp) content) 0 ≡ m.cycle → shade_block m place content ≡ m

@@ -1,15 +1,13 @@
 -- What shading keeps.
 use Rattle.std.proofs.Common.{◌≡◌, ℕ, inl, inr, [], ◌∷◌, ◌++◌, length, set, Option, Some, None, option_map, option_and_then, unwrap_or, is_some, IsSome, refl, sym, ap, ◌∙◌, subst}
-use Rattle.std.proofs.lemmas.Bool.{cases_eq, false≢true}
-use Rattle.std.proofs.lemmas.List.{length-set}
+use Rattle.std.proofs.{lemmas.Bool.{cases_eq, false≢true}, lemmas.List.length-set}
 use Rattle.mh_model.specs.Pages.{Table, page_number, slot_number, page_at, block_at, page_with, with_block}
 use Rattle.mh_model.specs.Table.{Block, resolve, references_at, with_reference_at, stamp_at, with_stamp_at, forward_at, LeadsOn, LeadsHome}
 use Rattle.mh_model.specs.Collector.{Marking, shade_place, shade}
 use Rattle.mh_table_laws.proofs.Lists.{to_some}
 use Rattle.mh_table_laws.proofs.placing.Places.{block_at-with_block_there, block_at-with_block_other, with_block-self}
 use Rattle.mh_grey.specs.Shading.{AreMarked}
-use Rattle.mh_grey.proofs.QueueLemmas.{in-push}
-use Rattle.mh_grey.proofs.ShadeLemmas.{place-cases, place-marked, place-new}
+use Rattle.mh_grey.proofs.{QueueLemmas.in-push, ShadeLemmas.{place-cases, place-marked, place-new}}
 
 -- One block exchanged ----------------------------------------------------------------------------
 

@@ -1,6 +1,5 @@
 -- The grey list as callers see it.
-use Rattle.std.specs.Prelude.{◌≡◌, ℕ, ◌*◌, ◌<◌, ◌≤◌, ◌==◌, Bool, true, List}
-use Rattle.std.specs.List.{list_any}
+use Rattle.std.specs.{Prelude.{◌≡◌, ℕ, ◌*◌, ◌<◌, ◌≤◌, ◌==◌, Bool, true, List}, List.list_any}
 use Rattle.mh_model.specs.Batches.{NoneTwice}
 
 -- the grey places in order, and of how many pages they may be

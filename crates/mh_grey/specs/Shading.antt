@@ -1,8 +1,6 @@
 -- What shading works on and what it asks for.
 use Rattle.std.specs.Prelude.{◌≡◌, ◌≢◌, ℕ, true, false, Option, Some, List}
-use Rattle.mh_model.specs.Pages.{Table}
-use Rattle.mh_model.specs.Table.{Block, target_of, stamp_at}
-use Rattle.mh_model.specs.Collector.{Marking}
+use Rattle.mh_model.specs.{Pages.Table, Table.{Block, target_of, stamp_at}, Collector.Marking}
 use Rattle.mh_grey.specs.Queue.{is_in}
 
 -- a table, a grey list and a cycle's number, as marking works on them

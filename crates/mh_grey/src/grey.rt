@@ -8,20 +8,17 @@
 //! a block is marked is asked of `Blocks`, which has the index. `front` and `pop` are for who uses the crate by itself:
 //! a batch is taken off by `pop_first`.
 ghost use Rattle.std.specs.Prelude.{◌≡◌, ◌==◌, ◌*◌, ◌<◌, ◌≤◌, false, IfOk, IsSome, [], ◌∷◌, ◌++◌, length, slice_get, take, drop, Some};
-ghost use Rattle.mh_model.specs.Pages.{block_at};
-ghost use Rattle.mh_model.specs.Collector.{shade, shade_place};
-ghost use Rattle.mh_model.specs.Batches.{NoneTwice};
-ghost use Rattle.mh_grey.specs.Queue.{is_in};
-ghost use Rattle.mh_grey.specs.Shading.{marking, IsApart, IsApartAt};
+ghost use Rattle.mh_model.specs.{Pages.block_at, Collector.{shade, shade_place}, Batches.NoneTwice};
+ghost use Rattle.mh_grey.specs.{Queue.is_in, Shading.{marking, IsApart, IsApartAt}};
 
 use crate::order::Order;
 use arrayvec::ArrayVec;
 use circular_buffer::HeapCircularBuffer;
 use mh_blocks::blocks::Blocks;
-use mh_blocks::mh_pages::address::Address;
 use mh_model::limits::PLACES;
 use mh_model::memory::NoMemory;
 use mh_model::place::Place;
+use mh_pages::address::Address;
 use std::alloc::Global;
 use std::marker::Model;
 /// The grey places in the order in which they were shaded, with room for one entry a place.

@@ -3,7 +3,5 @@
 //! Shading is by the place of a block. That no place is in the list twice is kept, so the list never lacks room.
 #![tactic(auto)]
 
-pub use mh_blocks::mh_pages;
-
 pub mod grey;
 mod order;

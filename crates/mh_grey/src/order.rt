@@ -3,11 +3,11 @@
 ghost use Rattle.std.specs.Prelude.{◌≡◌, ◌≤◌, IfOk};
 
 use mh_blocks::blocks::Blocks;
-use mh_blocks::mh_pages::address::Address;
-use mh_blocks::mh_pages::header::COUNTS;
-use mh_blocks::mh_pages::warmth::Warmth;
 use mh_model::limits::{HEADER, PLACES};
 use mh_model::memory::NoMemory;
+use mh_pages::address::Address;
+use mh_pages::header::COUNTS;
+use mh_pages::warmth::Warmth;
 use std::alloc::Global;
 use std::marker::Model;
 

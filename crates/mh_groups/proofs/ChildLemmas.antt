@@ -4,8 +4,8 @@ use Rattle.std.proofs.lemmas.Bool.{cases_Bool, leb-true, leb-false, ltb-true, lt
 use Rattle.std.proofs.lemmas.Option.{none-some, same_Some, slice_get_within}
 use Rattle.mh_model.specs.Classes.{Part, parts, run_count, middle_count}
 use Rattle.mh_table_laws.proofs.objects.Parts.{counts, length-parts, middle_at}
-use Rattle.mh_blocks.proofs.OfClasses.PartLemmas.{small_at, first_at, arraylet_at}
-use Rattle.mh_blocks.specs.OfClasses.Fits.{AreParts}
+use Rattle.mh_classes.proofs.PartLemmas.{small_at, first_at, arraylet_at}
+use Rattle.mh_classes.specs.Fits.{AreParts}
 use Rattle.mh_groups.specs.Making.{HaveTheirChildren}
 
 -- a part is a spine whose children are among the parts, or it has no children and stands after every spine

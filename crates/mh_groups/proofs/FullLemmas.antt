@@ -1,10 +1,9 @@
 -- How many parts of an object are full: one for each 60 fields.
 use Rattle.std.proofs.Common.{◌≡◌, ℕ, zero, suc, ◌+◌, ◌/◌, ◌≤◌, nat_le, nat_lt, cond, if◌then◌else◌, Bool, true, false, inl, inr, List, [], ◌∷◌, Some, slice_get, refl, sym, ap, ◌∙◌, arith, eq-eqb}
 use Rattle.std.proofs.lemmas.Bool.{cases_eq, cases_lt, cases_Bool, leb-true, leb-false, lt-ltb, le-ltb, ne_eqb}
-use Rattle.std.proofs.lemmas.List.Sums.{sum_by-cons, sum_by-append}
-use Rattle.std.proofs.lemmas.Option.{same_Some, slice_get_within}
+use Rattle.std.proofs.{lemmas.List.Sums.{sum_by-cons, sum_by-append}, lemmas.Option.{same_Some, slice_get_within}}
 use Rattle.mh_model.specs.Classes.{Part, tabulate, run_count, middle_count, middle_spine, arraylet, plain_part, spine_parts, parts}
-use Rattle.mh_blocks.proofs.OfClasses.PartLemmas.{small_at, first_at}
+use Rattle.mh_classes.proofs.PartLemmas.{small_at, first_at}
 use Rattle.mh_groups.specs.Room.{is_full, full_count}
 
 -- One part ---------------------------------------------------------------------------------------

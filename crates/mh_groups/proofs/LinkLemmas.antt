@@ -1,11 +1,9 @@
 -- Parts linked to their children: a block changed, the references of one part written in turn, and the parts in order.
 use Rattle.std.proofs.Common.{◌≡◌, ◌≢◌, ℕ, zero, suc, ◌+◌, ◌<◌, ◌≤◌, inl, inr, List, [], ◌∷◌, ◌++◌, length, get_or, set, take, drop, map, slice_get, Option, Some, None, option_map, unwrap_or, IsSome, refl, sym, ap, ◌∙◌, subst, arith}
-use Rattle.std.proofs.Math.Seq.{drop-cons, drop-length}
-use Rattle.std.proofs.lemmas.Bool.{cases_eq}
+use Rattle.std.proofs.{Math.Seq.{drop-cons, drop-length}, lemmas.Bool.cases_eq}
 use Rattle.std.proofs.lemmas.Option.{same_Some, slice_get_within}
 use Rattle.std.proofs.lemmas.List.{length-take, length-drop, length-replicate}
-use Rattle.mh_model.specs.Classes.{Part}
-use Rattle.mh_model.specs.Pages.{Table, block_at, with_block}
+use Rattle.mh_model.specs.{Classes.Part, Pages.{Table, block_at, with_block}}
 use Rattle.mh_model.specs.Table.{Block, references_at, with_reference_at, with_block_change, words_of, linked_block, linked_parts}
 use Rattle.mh_groups.specs.Making.{HaveTheirChildren, IsUnlinked, AreUnlinked}
 use Rattle.mh_table_laws.proofs.Lists.{from_some, to_some}

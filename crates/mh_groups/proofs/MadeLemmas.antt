@@ -1,20 +1,16 @@
 -- Parts made one after the other: what is left to be made, and how those that are made are taken back.
 use Rattle.std.proofs.Common.{unwrap_or, replicate, ◌≡◌, ◌≢◌, ℕ, zero, suc, ◌<◌, ◌≤◌, Bool, true, false, inl, inr, List, [], ◌∷◌, ◌++◌, length, get_or, set, take, drop, slice_get, Option, Some, None, is_none, option_map, option_and_then, refl, sym, ap, ◌∙◌, arith}
-use Rattle.std.proofs.Math.Seq.{take-suc-set, take-length, drop-length}
-use Rattle.std.proofs.lemmas.Bool.{cases_eq, false≢true}
+use Rattle.std.proofs.{Math.Seq.{take-suc-set, take-length, drop-length}, lemmas.Bool.{cases_eq, false≢true}}
 use Rattle.std.proofs.lemmas.Option.{none-some, same_Some, slice_get_within}
 use Rattle.std.proofs.lemmas.List.{get_or-set_same, get_or-set_other, append_assoc, append-nil, length-replicate}
-use Rattle.mh_table_laws.proofs.objects.RefusedObjects.{none-part}
+use Rattle.mh_table_laws.proofs.{objects.RefusedObjects.none-part, Lists.to_some}
+use Rattle.mh_table_laws.proofs.placing.Places.{taken_page, block_at-with_taken_same, block_at-with_taken_there, with_released-with_taken}
 use Rattle.mh_model.specs.Classes.{Part, class_of, part_words, slots_in}
 use Rattle.mh_model.specs.Pages.{Page, Table, page_number, page_at, block_at, class_at, least_place, with_taken, with_released, IsFreeFor, slot_number, block_count, live_in, count_at, page_with, page_for}
 use Rattle.mh_model.specs.Table.{Block, Made, MadeParts, new_block, made_in_class, made_part, made_parts}
-use Rattle.mh_model.specs.declared.deed.Deed.{Deed}
-use Rattle.mh_model.specs.Deeds.{made_deed, make_deeds}
-use Rattle.mh_groups.specs.Making.{without_parts, CanBeUnmade, AllCanBeUnmade, AreUnlinked}
-use Rattle.mh_groups.specs.Placed.{placed_deeds}
+use Rattle.mh_model.specs.{declared.deed.Deed.Deed, Deeds.{made_deed, make_deeds}}
+use Rattle.mh_groups.specs.{Making.{without_parts, CanBeUnmade, AllCanBeUnmade, AreUnlinked}, Placed.placed_deeds}
 use Rattle.mh_groups.proofs.TellLemmas.{deeds-more, make_deeds-more}
-use Rattle.mh_table_laws.proofs.Lists.{to_some}
-use Rattle.mh_table_laws.proofs.placing.Places.{taken_page, block_at-with_taken_same, block_at-with_taken_there, with_released-with_taken}
 
 -- Lists ------------------------------------------------------------------------------------------
 

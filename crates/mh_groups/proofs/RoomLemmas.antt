@@ -5,13 +5,12 @@ use Rattle.std.proofs.lemmas.Option.{none-some, same_Some}
 use Rattle.mh_model.specs.Classes.{Part, class_of, part_words, slots_in}
 use Rattle.mh_model.specs.Pages.{Page, Table, page_number, slot_number, page_at, block_in, page_with, page_for, with_taken, HaveTheirSlots, IsFreeFor}
 use Rattle.mh_model.specs.Table.{Block, Made, MadeParts, new_block, made_part, made_parts, group_of, made_group}
-use Rattle.mh_blocks.specs.OfPages.FreePlaces.{empty_count, free_in, free_places}
+use Rattle.mh_pages.specs.FreePlaces.{empty_count, free_in, free_places}
 use Rattle.mh_table_laws.specs.NewObjects.{IsMade}
 use Rattle.mh_table_laws.proofs.placing.Places.{IsShaped, shaped-slots}
 use Rattle.mh_table_laws.proofs.objects.MadeGroups.{made_part-is, made_parts-shaped}
 use Rattle.mh_groups.specs.Room.{is_full, full_count}
-use Rattle.mh_groups.proofs.MadeLemmas.{made_part-at, made_parts-more}
-use Rattle.mh_groups.proofs.FullLemmas.{one_if, count_part}
+use Rattle.mh_groups.proofs.{MadeLemmas.{made_part-at, made_parts-more}, FullLemmas.{one_if, count_part}}
 
 all_empty : (X : Type 0) (count : ℕ) → empty_count {X = X} (replicate count None) ≡ count
 all_empty X zero = refl

@@ -3,14 +3,11 @@ use Rattle.std.proofs.Common.{◌≡◌, ◌≢◌, ℕ, zero, suc, ◌+◌, ◌
 use Rattle.std.proofs.lemmas.Bool.{cases_eq}
 use Rattle.std.proofs.lemmas.List.{get_or-set_same, get_or-set_other, get_or-take, get_or_append_left, length-take}
 use Rattle.std.proofs.lemmas.Option.{none-some, same_Some}
-use Rattle.mh_model.specs.Classes.{Part}
-use Rattle.mh_model.specs.Deeds.{tier_of, made_deed, make_deeds}
+use Rattle.mh_model.specs.{Classes.Part, Deeds.{tier_of, made_deed, make_deeds}}
 use Rattle.mh_model.specs.Pages.{Page, Table, page_number, slot_number, page_at, block_at, class_at, flag_at, page_with, page_for, with_taken, IsFreeFor}
 use Rattle.mh_model.specs.Table.{Block, Made, made_part}
-use Rattle.mh_groups.specs.Placed.{tier_by, tier_at, part_deed, placed_deed, placed_deeds}
-use Rattle.mh_groups.specs.Making.{AreUnlinked}
-use Rattle.mh_table_laws.proofs.Lists.{from_some, to_some, below_length}
-use Rattle.mh_table_laws.proofs.placing.Places.{block-slot, taken_page}
+use Rattle.mh_groups.specs.{Placed.{tier_by, tier_at, part_deed, placed_deed, placed_deeds}, Making.AreUnlinked}
+use Rattle.mh_table_laws.proofs.{Lists.{from_some, to_some, below_length}, placing.Places.{block-slot, taken_page}}
 
 -- One part ---------------------------------------------------------------------------------------
 

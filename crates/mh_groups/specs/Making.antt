@@ -1,9 +1,7 @@
 -- Parts made one after the other, how they are taken back, and what they are before they are linked.
 -- These words belong to private functions and their loops, and no public contract names them.
 use Rattle.std.specs.Prelude.{◌≡◌, ◌≤◌, ◌+◌, IsSome, ℕ, zero, suc, Bool, true, false, Some, None, List, length, get_or, replicate, slice_get}
-use Rattle.mh_model.specs.Classes.{Part}
-use Rattle.mh_model.specs.Pages.{Table, page_number, block_at, count_at, with_released}
-use Rattle.mh_model.specs.Table.{Block}
+use Rattle.mh_model.specs.{Classes.Part, Pages.{Table, page_number, block_at, count_at, with_released}, Table.Block}
 
 -- the children of each part are among the parts, and after a part without children no part has any
 pub record HaveTheirChildren (list : List Part) : Type 0 where

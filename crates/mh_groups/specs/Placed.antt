@@ -1,12 +1,8 @@
 -- Parts as a making tells them: where each was placed, and the tier that found its place.
 use Rattle.std.specs.Prelude.{ℕ, suc, Bool, true, false, if◌then◌else◌, unwrap_or, List, [], ◌∷◌, get_or}
-use Rattle.mh_model.specs.declared.deed.Deed.{Deed}
-use Rattle.mh_model.specs.declared.deed.Deed.TheVariants as deed
-use Rattle.mh_model.specs.declared.deed.Tier.{Tier}
-use Rattle.mh_model.specs.declared.deed.Tier.TheVariants.{Dense, Fresh, Sparse}
-use Rattle.mh_model.specs.Classes.{Part, class_of, part_words}
-use Rattle.mh_model.specs.Pages.{Table, page_number, flag_at}
-use Rattle.mh_model.specs.Table.{Block}
+use Rattle.mh_model.specs.{declared.deed.Deed.Deed, declared.deed.Tier.Tier}
+use Rattle.mh_model.specs.{declared.deed.Tier.TheVariants.{Dense, Fresh, Sparse}, Classes.{Part, class_of, part_words}}
+use Rattle.mh_model.specs.{Pages.{Table, page_number, flag_at}, Table.Block}
 
 -- a tier by the flag of the page, and by whether the page was free before
 abbrev pub tier_by : Bool → Bool → Tier
@@ -20,7 +16,7 @@ tier_at table place is_fresh = tier_by (flag_at table (page_number place)) is_fr
 -- a part of an object with this birth at a place that this tier found
 abbrev pub part_deed : ℕ → ℕ → Part → ℕ → Tier → Deed
 part_deed birth index part place tier =
-    deed.Make place (record { birth = birth; part = index }) (unwrap_or (class_of (part_words part)) 0) (record { references = part.references; numbers = part.numbers }) tier
+    Deed.Make place (record { birth = birth; part = index }) (unwrap_or (class_of (part_words part)) 0) (record { references = part.references; numbers = part.numbers }) tier
 
 -- the part of this number by the lists of all places and of whether their pages were free before
 abbrev pub placed_deed : Table Block → ℕ → List ℕ → List Bool → ℕ → Part → Deed

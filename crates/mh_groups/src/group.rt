@@ -12,21 +12,18 @@
 //! the page that it took, and no memory is asked for. The parts are linked after all of them were made, as the
 //! definition does.
 ghost use Rattle.std.specs.Prelude.{◌≡◌, ◌<◌, ◌≤◌, ◌^◌, ◌&&◌, ℕ, nat_lt, true, IsSome, IfOk, OnOk, OnErr, Some, None, length, get_or, map, take, [], ◌∷◌};
-ghost use Rattle.mh_model.specs.Deeds.{make_deeds};
-ghost use Rattle.mh_model.specs.Pages.{page_number, block_at};
+ghost use Rattle.mh_model.specs.{Deeds.make_deeds, Pages.{page_number, block_at}};
 ghost use Rattle.mh_model.specs.Table.{references_at, with_block_change, made_parts, linked_parts, made_group};
-ghost use Rattle.mh_blocks.specs.OfClasses.Fits.{AreParts};
-ghost use Rattle.mh_blocks.specs.OfPages.FreePlaces.{free_places};
+ghost use Rattle.mh_classes.specs.Fits.{AreParts};
+ghost use Rattle.mh_pages.specs.FreePlaces.{free_places};
 ghost use Rattle.mh_deeds.specs.Logs.{Told};
 ghost use Rattle.mh_groups.specs.Making.{HaveTheirChildren, without_parts, AllCanBeUnmade, AreUnlinked};
-ghost use Rattle.mh_groups.specs.Placed.{tier_at, part_deed, placed_deeds};
-ghost use Rattle.mh_groups.specs.Room.{full_count};
+ghost use Rattle.mh_groups.specs.{Placed.{tier_at, part_deed, placed_deeds}, Room.full_count};
 
 use mh_blocks::blocks::{Blocks, Full};
-use mh_blocks::mh_classes::class::Class;
-use mh_blocks::mh_classes::parts::{Part, Parts};
+use mh_classes::class::Class;
+use mh_classes::parts::{Part, Parts};
 use mh_deeds::log::Log;
-pub use mh_deeds::log::NoLog;
 use mh_model::birth::Birth;
 use mh_model::deed::{Deed, PartName, Tier};
 use mh_model::limits::{MOST_PARTS, RUN};

@@ -1,7 +1,6 @@
 -- How many are born by a command.
 use Rattle.std.proofs.Common.{ℕ, ◌+◌, ◌≤◌, Bool, subst}
-use Rattle.mh_model.specs.declared.command.Command.{Command}
-use Rattle.mh_model.specs.declared.reply.Reply.{Reply}
+use Rattle.mh_model.specs.{declared.command.Command.Command, declared.reply.Reply.Reply}
 use Rattle.mh_model.specs.World.{World, Answer, Performs, births}
 use Rattle.mh_model.proofs.WorldLemmas.{births-heap_step}
 

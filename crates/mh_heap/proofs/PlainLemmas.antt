@@ -1,7 +1,6 @@
 -- What a heap that keeps every object shows, and that it stays closed.
 use Rattle.std.proofs.Common.{◌≡◌, ℕ, zero, suc, ◌+◌, ◌-◌, ◌<◌, Bool, Option, Some, None, List, [], ◌∷◌, ◌++◌, length, map, set, get_or, replicate, IsSome, if◌then◌else◌, true, false, option_map, refl, sym, ap, ◌∙◌, subst, ⊎_elim, arith, add-one}
-use Rattle.std.proofs.lemmas.List.{get_or-map, map-set, map_push, length-map}
-use Rattle.std.proofs.lemmas.Option.{same_Some}
+use Rattle.std.proofs.{lemmas.List.{get_or-map, map-set, map_push, length-map}, lemmas.Option.same_Some}
 use Rattle.mh_model.specs.declared.config.Config.{Config}
 use Rattle.mh_model.specs.World.{Object, World, IsClosed, reference_of, slot_at, object_in, blank, with_reference, with_number, cleared}
 use Rattle.mh_model.specs.Limits.{root_slots}

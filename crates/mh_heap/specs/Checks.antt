@@ -1,7 +1,6 @@
 -- What the tests of a command let through.
 use Rattle.std.specs.Prelude.{Bool, List, Result, Ok, Err, Option, Some, None}
-use Rattle.mh_model.specs.World.{first_refusal}
-use Rattle.mh_model.specs.declared.reply.Refusal.{Refusal}
+use Rattle.mh_model.specs.{World.first_refusal, declared.reply.Refusal.Refusal}
 
 -- the value, if there is no refusal
 abbrev pub unless : {T : Type 0} → Option Refusal → T → Result T Refusal

@@ -1,7 +1,6 @@
 -- The world that a heap which never collects shows.
 use Rattle.mh_model.specs.World.{World}
-use Rattle.mh_heap.specs.PlainWorld.{plain_world}
-use Rattle.mh_heap.specs.declared.plain.PlainHeap.{PlainHeap}
+use Rattle.mh_heap.specs.{PlainWorld.plain_world, declared.plain.PlainHeap.PlainHeap}
 
 -- the world that a heap without a collector shows
 abbrev pub world_of : PlainHeap → World

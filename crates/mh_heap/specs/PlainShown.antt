@@ -1,8 +1,6 @@
 -- What a heap that never collects shows, and that a quantum of it which changes nothing shows what it should.
-use Rattle.std.proofs.Common.{◌≡◌, IsSome, ℕ, ◌≤◌, List, [], ◌∷◌, refl, sym, subst}
-use Rattle.std.proofs.Math.Nat.{le_refl, le-suc}
-use Rattle.mh_model.specs.World.{World, IsClosed, never_full, object_at}
-use Rattle.mh_model.specs.Paths.{Agrees, IsPath}
+use Rattle.std.proofs.{Common.{◌≡◌, IsSome, ℕ, ◌≤◌, List, [], ◌∷◌, refl, sym, subst}, Math.Nat.{le_refl, le-suc}}
+use Rattle.mh_model.specs.{World.{World, IsClosed, never_full, object_at}, Paths.{Agrees, IsPath}}
 use Rattle.mh_heap.specs.Shown.{Showing, ShowsQuantum}
 
 -- what such a heap shows: there is always a place, no cycle begins, and a quantum spends nothing

@@ -1,8 +1,6 @@
 -- What a heap shows, and what a command and a quantum show of it.
 use Rattle.std.specs.Prelude.{◌≡◌, ℕ, ◌+◌, ◌≤◌, Bool}
-use Rattle.mh_model.specs.declared.command.Command.{Command}
-use Rattle.mh_model.specs.declared.reply.Reply.{Reply}
-use Rattle.mh_model.specs.World.{World, Performs}
+use Rattle.mh_model.specs.{declared.command.Command.Command, declared.reply.Reply.Reply, World.{World, Performs}}
 use Rattle.mh_model.specs.Paths.{Agrees}
 
 -- what a heap shows: the world that it is seen as, and whether no place is left for an object of so many references and numbers; how many cycles have

@@ -17,13 +17,11 @@
 //! `Result<Result<(), Refusal>, NoMemory>`, since out of memory is no reply. The signatures stand here, in the plain
 //! heap and in the heap of pages: an implementation spells them out.
 ghost use Rattle.std.specs.Prelude.{◌≡◌, ◌<◌, ℕ, None, IfOk, OnErr};
-ghost use Rattle.mh_model.specs.declared.birth.TheConstants.{LIFE};
-ghost use Rattle.mh_model.specs.declared.command.Command.{Command};
-ghost use Rattle.mh_model.specs.declared.command.Command.TheVariants as command;
-ghost use Rattle.mh_model.specs.declared.reply.Reply.{Reply};
-ghost use Rattle.mh_model.specs.World.{births, sight_of, refusal, IsClosed};
+ghost use Rattle.mh_model.specs.{declared.birth.TheConstants.LIFE, declared.command.Command.Command};
+ghost use Rattle.mh_model.specs.{declared.reply.Reply.Reply, World.{births, sight_of, refusal, IsClosed}};
 ghost use Rattle.mh_heap.specs.Outcome.{done_or, number_or, same_or, shape_or};
 ghost use Rattle.mh_heap.specs.Shown.{Showing, ShowsCommand, ShowsQuantum};
+ghost use Rattle.mh_model.specs.declared.command.Command.TheVariants as command;
 
 use mh_model::cycle::Spent;
 use mh_model::memory::NoMemory;

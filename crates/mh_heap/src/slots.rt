@@ -1,8 +1,7 @@
 //! Where the slots of sessions and of the board stand among the root slots: the root slot, or the refusal of a bad
 //! number.
 ghost use Rattle.std.specs.Prelude.{◌≡◌, ◌<◌, [], ◌∷◌, IfOk};
-ghost use Rattle.mh_model.specs.World.{is_bad, own_slot, board_slot};
-ghost use Rattle.mh_model.specs.declared.reply.Refusal.TheVariants.{BadSlot};
+ghost use Rattle.mh_model.specs.{World.{is_bad, own_slot, board_slot}, declared.reply.Refusal.TheVariants.BadSlot};
 ghost use Rattle.mh_model.specs.Limits.{root_slots};
 ghost use Rattle.mh_heap.specs.Checks.{tested};
 

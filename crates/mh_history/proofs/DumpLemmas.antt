@@ -1,14 +1,10 @@
 -- Dumps by their words.
 use Rattle.std.proofs.Common.{◌≡◌, ℕ, nat_lt, Bool, true, false, Option, Some, None, option_map, option_and_then, is_some, List, [], ◌∷◌, ◌++◌, length, refl, ap, sym, ◌∙◌, append_assoc, arith}
 use Rattle.std.proofs.lemmas.List.{append-nil}
-use Rattle.mh_model.specs.declared.dump.DumpItem.{DumpItem}
-use Rattle.mh_model.specs.declared.reply.Reply.{Reply}
-use Rattle.mh_model.specs.declared.reply.Reply.TheVariants as reply
-use Rattle.mh_model.specs.Bytes.{Text, parts_at, number}
+use Rattle.mh_model.specs.{declared.dump.DumpItem.DumpItem, declared.reply.Reply.Reply, Bytes.{Text, parts_at, number}}
 use Rattle.mh_model.specs.Forms.{within, numbered, are_below, u64}
 use Rattle.mh_model.specs.Replies.{placed_from, ascends, Ready, with_item, items_from}
-use Rattle.mh_history.specs.Dumps.{placed_made, placed_numbers}
-use Rattle.mh_history.specs.declared.dump.Placed.{Placed}
+use Rattle.mh_history.specs.{Dumps.{placed_made, placed_numbers}, declared.dump.Placed.Placed}
 use Rattle.mh_history.proofs.PartLemmas.{numbered_other, number_small}
 
 -- A slot and what stands after its mark ----------------------------------------------------------
@@ -68,27 +64,27 @@ placed_no_second mark word slot place first second a b is pair x y z = placed_wo
 
 -- the words that are left are items that may come after this page and this slot
 abbrev pub goes_on : Option ℕ → Option ℕ → List Text → Bool
-goes_on page slot words = is_some (option_and_then (λ items. within (ascends page slot items) (reply.Dump items)) (items_from Ready words))
+goes_on page slot words = is_some (option_and_then (λ items. within (ascends page slot items) (Reply.Dump items)) (items_from Ready words))
 
 same_some : (is other : Bool) (a b : Reply) → is ≡ other → is_some (within is a) ≡ is_some (within other b)
 same_some true other a b same = rw (← same) refl
 same_some false other a b same = rw (← same) refl
 
 step_by : (page slot next_page next_slot : Option ℕ) (item : DumpItem) (rest : Option (List DumpItem)) → ((items : List DumpItem) → ascends page slot (item ∷ items) ≡ ascends next_page next_slot items)
-    → is_some (option_and_then (λ items. within (ascends page slot items) (reply.Dump items)) (with_item (Some item) rest))
-    ≡ is_some (option_and_then (λ items. within (ascends next_page next_slot items) (reply.Dump items)) rest)
+    → is_some (option_and_then (λ items. within (ascends page slot items) (Reply.Dump items)) (with_item (Some item) rest))
+    ≡ is_some (option_and_then (λ items. within (ascends next_page next_slot items) (Reply.Dump items)) rest)
 step_by page slot next_page next_slot item None same = refl
-step_by page slot next_page next_slot item (Some items) same = same_some (ascends page slot (item ∷ items)) (ascends next_page next_slot items) (reply.Dump (item ∷ items)) (reply.Dump items) (same items)
+step_by page slot next_page next_slot item (Some items) same = same_some (ascends page slot (item ∷ items)) (ascends next_page next_slot items) (Reply.Dump (item ∷ items)) (Reply.Dump items) (same items)
 
 pub dump_next : (all : Bool) (page slot next_page next_slot : Option ℕ) (item : DumpItem) (line words rest : List Text) (word : Text) → goes_on page slot line ≡ all → line ≡ word ∷ words
     → items_from Ready (word ∷ words) ≡ with_item (Some item) (items_from Ready rest) → ((items : List DumpItem) → ascends page slot (item ∷ items) ≡ ascends next_page next_slot items) → goes_on next_page next_slot rest ≡ all
 dump_next all page slot next_page next_slot item line words rest word done is read same =
     sym (step_by page slot next_page next_slot item (items_from Ready rest) same)
-    ∙ (ap (λ (read : Option (List DumpItem)). is_some (option_and_then (λ items. within (ascends page slot items) (reply.Dump items)) read)) (sym read)
+    ∙ (ap (λ (read : Option (List DumpItem)). is_some (option_and_then (λ items. within (ascends page slot items) (Reply.Dump items)) read)) (sym read)
     ∙ (ap (goes_on page slot) (sym is) ∙ done))
 
 low_by : (page slot : Option ℕ) (item : DumpItem) (rest : Option (List DumpItem)) → ((items : List DumpItem) → ascends page slot (item ∷ items) ≡ false)
-    → is_some (option_and_then (λ items. within (ascends page slot items) (reply.Dump items)) (with_item (Some item) rest)) ≡ false
+    → is_some (option_and_then (λ items. within (ascends page slot items) (Reply.Dump items)) (with_item (Some item) rest)) ≡ false
 low_by page slot item None low = refl
 low_by page slot item (Some items) low = rw (low items) refl
 
@@ -96,12 +92,12 @@ pub dump_low : (all : Bool) (page slot : Option ℕ) (item : DumpItem) (line wor
     → items_from Ready (word ∷ words) ≡ with_item (Some item) (items_from Ready rest) → ((items : List DumpItem) → ascends page slot (item ∷ items) ≡ false) → false ≡ all
 dump_low all page slot item line words rest word done is read low =
     sym (low_by page slot item (items_from Ready rest) low)
-    ∙ (ap (λ (read : Option (List DumpItem)). is_some (option_and_then (λ items. within (ascends page slot items) (reply.Dump items)) read)) (sym read)
+    ∙ (ap (λ (read : Option (List DumpItem)). is_some (option_and_then (λ items. within (ascends page slot items) (Reply.Dump items)) read)) (sym read)
     ∙ (ap (goes_on page slot) (sym is) ∙ done))
 
 pub dump_wrong : (all : Bool) (page slot : Option ℕ) (line words : List Text) (word : Text) → goes_on page slot line ≡ all → line ≡ word ∷ words → items_from Ready (word ∷ words) ≡ None → false ≡ all
 dump_wrong all page slot line words word done is none =
-    ap (λ (read : Option (List DumpItem)). is_some (option_and_then (λ items. within (ascends page slot items) (reply.Dump items)) read)) (sym none)
+    ap (λ (read : Option (List DumpItem)). is_some (option_and_then (λ items. within (ascends page slot items) (Reply.Dump items)) read)) (sym none)
     ∙ (ap (goes_on page slot) (sym is) ∙ done)
 
 -- Items one after another ------------------------------------------------------------------------

@@ -1,10 +1,8 @@
 -- The units of an entry.
 use Rattle.std.proofs.Common.{◌≡◌, ℕ, Option, Some, None, option_and_then, List, [], ◌∷◌, length, refl, arith}
 use Rattle.std.specs.Prelude.{codes}
-use Rattle.mh_model.specs.declared.history.Entry.{Entry}
-use Rattle.mh_model.specs.declared.history.Version.TheVariants.{Two}
-use Rattle.mh_model.specs.Bytes.{Text, numbers}
-use Rattle.mh_model.specs.HistoryTexts.{halves_at, entry_of, measured_with, measured_of}
+use Rattle.mh_model.specs.{declared.history.Entry.Entry, declared.history.Version.TheVariants.Two}
+use Rattle.mh_model.specs.{Bytes.{Text, numbers}, HistoryTexts.{halves_at, entry_of, measured_with, measured_of}}
 use Rattle.mh_text.specs.Words.{few_numbers}
 use Rattle.mh_text.proofs.WordLemmas.{none_of}
 

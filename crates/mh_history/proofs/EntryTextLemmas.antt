@@ -1,15 +1,10 @@
 -- The text of an entry by its parts.
 use Rattle.std.proofs.Common.{◌≡◌, List, [], ◌∷◌, ◌++◌, refl, ap, ◌∙◌, append_assoc}
 use Rattle.std.specs.Prelude.{codes, decimal}
-use Rattle.mh_model.specs.declared.command.Event.{Event}
-use Rattle.mh_model.specs.declared.command.Event.TheVariants as event
-use Rattle.mh_model.specs.declared.reply.Reply.{Reply}
-use Rattle.mh_model.specs.declared.reply.Reply.TheVariants as reply
-use Rattle.mh_model.specs.declared.history.Measured.{Measured}
-use Rattle.mh_model.proofs.TextLemmas.{joined-append}
-use Rattle.mh_model.specs.Bytes.{Text, joined, line_text}
-use Rattle.mh_model.specs.Replies.{reply_words, reply_text}
+use Rattle.mh_model.specs.{declared.command.Event.Event, declared.reply.Reply.Reply, declared.history.Measured.Measured}
+use Rattle.mh_model.specs.{Bytes.{Text, joined, line_text}, Replies.{reply_words, reply_text}}
 use Rattle.mh_model.specs.HistoryTexts.{event_words, measured_words, measured_line}
+use Rattle.mh_model.proofs.TextLemmas.{joined-append}
 
 -- words of which there is one at least
 record Full (words : List Text) : Type 0 where
@@ -18,12 +13,12 @@ record Full (words : List Text) : Type 0 where
   pub words_are : words ≡ first ∷ more
 
 full_reply : (r : Reply) → Full (reply_words r)
-full_reply reply.Done = record { first = _; more = _; words_are = refl }
+full_reply Reply.Done = record { first = _; more = _; words_are = refl }
 full_reply other = record { first = _; more = _; words_are = refl }
 
 full_event : (e : Event) → Full (event_words e)
-full_event (event.Session who command) = record { first = _; more = _; words_are = refl }
-full_event (event.Control control) = record { first = _; more = _; words_are = refl }
+full_event (Event.Session who command) = record { first = _; more = _; words_are = refl }
+full_event (Event.Control control) = record { first = _; more = _; words_are = refl }
 
 joined_full : (words : List Text) (next : Text) (more : List Text) → Full words → joined (words ++ next ∷ more) ≡ joined words ++ 32 ∷ joined (next ∷ more)
 joined_full words next more full = rw full.words_are (joined-append full.first full.more next more)

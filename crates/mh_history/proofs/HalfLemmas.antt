@@ -1,11 +1,8 @@
 -- The words before and after `=` in a line, by its bytes.
-use Rattle.std.proofs.Common.{◌≡◌, ℕ, zero, suc, ◌+◌, ◌-◌, ◌<◌, ◌==◌, not, cond, Bool, true, false, Option, Some, None, IsSome, option_map, option_and_then, List, [], ◌∷◌, ◌++◌, length, take, drop, get_or, refl, sym, ap, ◌∙◌, append_assoc, arith}
+use Rattle.std.proofs.Common.{◌≡◌, ℕ, zero, suc, ◌+◌, ◌-◌, ◌<◌, ◌==◌, not, cond, Bool, true, false, Option, Some, None, IsSome, option_map, option_and_then, List, [], ◌∷◌, ◌++◌, length, take, drop, get_or, refl, sym, ap, ◌∙◌, append_assoc, arith, take-append-drop}
+use Rattle.std.proofs.{lemmas.List.{append-nil, take_rest}, lemmas.Bool.{and_parts, and_from}}
 use Rattle.std.specs.Prelude.{codes}
-use Rattle.std.proofs.lemmas.List.{append-nil, take_rest}
-use Rattle.std.proofs.Common.{take-append-drop}
-use Rattle.std.proofs.lemmas.Bool.{and_parts, and_from}
-use Rattle.mh_model.specs.declared.history.Entry.{Entry}
-use Rattle.mh_model.specs.declared.history.Version.{Version}
+use Rattle.mh_model.specs.{declared.history.Entry.Entry, declared.history.Version.Version}
 use Rattle.mh_model.specs.declared.history.Version.TheVariants.{Two}
 use Rattle.mh_model.specs.Bytes.{Text, Cut, cut_after, with_byte, words, numbers, is_text}
 use Rattle.mh_model.specs.HistoryTexts.{Halves, halves_at, entry_by, entry_of, measured_with, measured_by, measured_of}

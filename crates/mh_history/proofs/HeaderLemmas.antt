@@ -1,13 +1,10 @@
 -- First lines of version 2.
 use Rattle.std.proofs.Common.{◌≡◌, ℕ, ◌<◌, nat_lt, true, Option, Some, None, option_map, option_and_then, List, [], ◌∷◌, length, refl, ◌∙◌, arith}
 use Rattle.std.specs.Prelude.{codes}
-use Rattle.mh_model.specs.Configs.{configured, configured_first}
-use Rattle.mh_model.specs.Bytes.{Text, is_text, number, numbers}
-use Rattle.mh_model.specs.Forms.{within, u32}
-use Rattle.mh_model.specs.HistoryTexts.{header_by, header_of}
+use Rattle.mh_model.specs.{Configs.{configured, configured_first}, Bytes.{Text, is_text, number, numbers}}
+use Rattle.mh_model.specs.{Forms.{within, u32}, HistoryTexts.{header_by, header_of}}
 use Rattle.mh_text.specs.Words.{few_numbers}
-use Rattle.mh_text.proofs.WordLemmas.{none_of}
-use Rattle.mh_text.proofs.FormLemmas.{small_same}
+use Rattle.mh_text.proofs.{WordLemmas.none_of, FormLemmas.small_same}
 
 pub header_first : (rules pages quantum trigger every p q t e : ℕ) → rules ≡ 1 → within (nat_lt pages u32) pages ≡ Some p → within (nat_lt quantum u32) quantum ≡ Some q → within (nat_lt trigger u32) trigger ≡ Some t
     → within (nat_lt every u32) every ≡ Some e → configured_first p q t e ≡ header_by (rules ∷ pages ∷ quantum ∷ trigger ∷ every ∷ [])

@@ -1,14 +1,11 @@
 -- Whole texts by their first line and the lines after it.
 use Rattle.std.proofs.Common.{◌≡◌, ℕ, suc, ◌<◌, ◌≤◌, nat_lt, Bool, true, false, if◌then◌else◌, Option, Some, None, List, [], ◌∷◌, length, take, ap, sym, refl, ◌∙◌, arith}
-use Rattle.std.specs.Prelude.{codes}
 use Rattle.std.proofs.lemmas.Bool.Decides.{nat_tests}
-use Rattle.mh_model.specs.declared.config.Config.{Config}
-use Rattle.mh_model.specs.Bytes.{Text, cut_after, words, is_text}
-use Rattle.mh_model.specs.Script.{BadLine}
-use Rattle.mh_model.proofs.ScriptLemmas.{history_reading-short, recorded_reading-short}
+use Rattle.std.specs.Prelude.{codes}
+use Rattle.mh_model.specs.{declared.config.Config.Config, Bytes.{Text, cut_after, words, is_text}, Script.BadLine}
 use Rattle.mh_model.specs.HistoryTexts.{header_of, entries_from, history_of, history_reading, recorded_by, recorded_of, recorded_reading}
-use Rattle.mh_text.specs.Pieces.{Lines, TakesLine, lines_from}
-use Rattle.mh_text.specs.Reading.{first_lines}
+use Rattle.mh_model.proofs.ScriptLemmas.{history_reading-short, recorded_reading-short}
+use Rattle.mh_text.specs.{Pieces.{Lines, TakesLine, lines_from}, Reading.first_lines}
 use Rattle.mh_history.specs.Beginnings.{line_as_entry, line_as_measured, entries_left, after_header, HasEntry, BeginsWithEntry, BeginsWithMeasured}
 
 -- the pieces of a cut that is one line and what a reader of lines has left

@@ -2,8 +2,7 @@
 use Rattle.std.proofs.Common.{◌≡◌, ℕ, zero, suc, ◌+◌, ◌<◌, Bool, true, false, if◌then◌else◌, Option, Some, None, option_map, option_and_then, List, [], ◌∷◌, ◌++◌, length, get_or, drop, refl, ap, sym, ◌∙◌, append_assoc, arith}
 use Rattle.std.proofs.lemmas.List.{map-append}
 use Rattle.std.specs.Borrow.{Bor}
-use Rattle.mh_model.specs.Bytes.{Text, is_text}
-use Rattle.mh_model.specs.Replies.{values, stat_of}
+use Rattle.mh_model.specs.{Bytes.{Text, is_text}, Replies.{values, stat_of}}
 use Rattle.mh_text.specs.Names.{names_shown}
 use Rattle.mh_history.proofs.PartLemmas.{shown_next}
 

@@ -1,10 +1,7 @@
 -- Lines that are entries, one after another.
 use Rattle.std.proofs.Common.{◌≡◌, ℕ, suc, ◌+◌, Option, Some, None, IsSome, List, [], ◌∷◌, ◌++◌, length, take, ap, sym, refl, ◌∙◌, append_assoc, arith}
-use Rattle.std.proofs.lemmas.List.{append-nil, length-append}
-use Rattle.std.proofs.Math.Seq.{take-append-add}
-use Rattle.mh_model.specs.Bytes.{Text}
-use Rattle.mh_model.specs.Script.{Reading, BadLine, Means, reading_map, at_end}
-use Rattle.mh_model.specs.HistoryTexts.{entries_from}
+use Rattle.std.proofs.{lemmas.List.{append-nil, length-append}, Math.Seq.take-append-add}
+use Rattle.mh_model.specs.{Bytes.Text, Script.{Reading, BadLine, Means, reading_map, at_end}, HistoryTexts.entries_from}
 use Rattle.mh_text.specs.Pieces.{Lines, TakesLine}
 use Rattle.mh_history.specs.Beginnings.{entries_left, entry_before, HasEntry, TakesEntry}
 

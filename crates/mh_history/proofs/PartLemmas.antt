@@ -1,20 +1,13 @@
 -- Words that are numbers, and words that are texts.
 use Rattle.std.proofs.Common.{◌≡◌, ℕ, zero, suc, ◌+◌, ◌^◌, ◌<◌, ◌≤◌, nat_lt, ◌&&◌, Bool, true, false, if◌then◌else◌, Option, Some, None, option_and_then, List, [], ◌∷◌, length, get_or, drop, refl, ap, sym, ◌∙◌, arith}
-use Rattle.std.specs.Prelude.{codes}
-use Rattle.std.proofs.lemmas.Bool.Decides.{nat_tests}
-use Rattle.std.specs.Borrow.{Bor}
+use Rattle.std.proofs.{lemmas.Bool.Decides.nat_tests, Math.Bool.and-false}
+use Rattle.std.specs.{Prelude.codes, Borrow.Bor}
 use Rattle.mh_model.specs.Bytes.{Text, is_text, is_numeral, value_after, number, numbers}
-use Rattle.mh_model.specs.Forms.{within, formed, numbered, are_below, at, u32, u64}
-use Rattle.mh_model.specs.declared.shape.Shape.{Shape}
-use Rattle.mh_model.specs.declared.reply.Refusal.TheVariants.{TooManySessions}
-use Rattle.mh_model.specs.Replies.{are_texts, refusal_forms}
-use Rattle.mh_text.specs.Names.{names_shown}
-use Rattle.mh_text.specs.Words.{few_numbers}
-use Rattle.mh_text.proofs.WordLemmas.{few_same, none_of, length_numbers}
-use Rattle.std.proofs.Math.Bool.{and-false}
+use Rattle.mh_model.specs.{Forms.{within, formed, numbered, are_below, at, u32, u64}, declared.shape.Shape.Shape}
+use Rattle.mh_model.specs.{declared.reply.Refusal.TheVariants.TooManySessions, Replies.{are_texts, refusal_forms}}
+use Rattle.mh_text.specs.{Names.names_shown, Words.few_numbers}
+use Rattle.mh_text.proofs.{WordLemmas.{few_same, none_of, length_numbers}, RowLemmas.below_other, FormLemmas.small_same}
 use Rattle.mh_model.proofs.TextLemmas.{text_is}
-use Rattle.mh_text.proofs.RowLemmas.{below_other}
-use Rattle.mh_text.proofs.FormLemmas.{small_same}
 
 -- Numbers ----------------------------------------------------------------------------------------
 

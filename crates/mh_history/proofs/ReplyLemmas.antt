@@ -1,9 +1,7 @@
 -- Replies by their first word.
 use Rattle.std.proofs.Common.{◌≡◌, true, List, ◌∷◌, refl}
 use Rattle.std.specs.Prelude.{codes}
-use Rattle.mh_model.specs.declared.history.Version.{Version}
-use Rattle.mh_model.specs.Bytes.{Text, is_text}
-use Rattle.mh_model.specs.Replies.{reply_of, dump_of}
+use Rattle.mh_model.specs.{declared.history.Version.Version, Bytes.{Text, is_text}, Replies.{reply_of, dump_of}}
 use Rattle.mh_model.proofs.TextLemmas.{text_is}
 
 pub dump_said : (version : Version) (line : List Text) (verb : Text) (words : List Text) → line ≡ verb ∷ words → is_text verb (codes "dump") ≡ true → reply_of version line ≡ dump_of words

@@ -1,14 +1,10 @@
 -- Histories from a line on, and the entries that one begins with.
 use Rattle.std.specs.Prelude.{◌≡◌, ℕ, ◌<◌, ◌≤◌, Option, Some, List, [], ◌∷◌, length, take}
-use Rattle.mh_model.specs.declared.config.Config.{Config}
-use Rattle.mh_model.specs.declared.history.Entry.{Entry}
-use Rattle.mh_model.specs.declared.history.Measured.{Measured}
-use Rattle.mh_model.specs.declared.history.Version.TheVariants.{One}
-use Rattle.mh_model.specs.Bytes.{Text, cut_after, words}
-use Rattle.mh_model.specs.Script.{Reading, Means, reading_map}
+use Rattle.mh_model.specs.{declared.config.Config.Config, declared.history.Entry.Entry}
+use Rattle.mh_model.specs.{declared.history.Measured.Measured, declared.history.Version.TheVariants.One}
+use Rattle.mh_model.specs.{Bytes.{Text, cut_after, words}, Script.{Reading, Means, reading_map}}
 use Rattle.mh_model.specs.HistoryTexts.{Recorded, entry_of, measured_of, entries_from, history_of, recorded_of}
-use Rattle.mh_text.specs.Pieces.{Lines, TakesLine}
-use Rattle.mh_text.specs.Reading.{first_lines}
+use Rattle.mh_text.specs.{Pieces.{Lines, TakesLine}, Reading.first_lines}
 
 -- what a line of a history of version 1 is read as, and one of version 2
 abbrev pub line_as_entry : Text → Option Entry

@@ -1,8 +1,6 @@
 -- The numbers of a word of a dump.
 use Rattle.std.specs.Prelude.{ℕ, Option, List, [], ◌∷◌}
-use Rattle.mh_model.specs.Bytes.{Text, parts_at}
-use Rattle.mh_model.specs.Forms.{numbered, at, u64}
-use Rattle.mh_model.specs.Replies.{placed_from}
+use Rattle.mh_model.specs.{Bytes.{Text, parts_at}, Forms.{numbered, at, u64}, Replies.placed_from}
 use Rattle.mh_history.specs.declared.dump.Placed.{Placed}
 
 -- a slot and two numbers, by a list of these three

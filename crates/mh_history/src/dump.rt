@@ -1,8 +1,7 @@
 //! Dumps as histories write them. Pages and slots ascend strictly. A page without blocks is well formed, and a block
 //! before any page isn't. A class size need not be a class.
 ghost use Rattle.std.specs.Prelude.{◌≡◌, ◌≢◌, ◌≤◌, ◌∷◌, [], List, length, nat_lt, Bool, true, false, Some, None, IfSome, IfNone, IfOk, OnErr, IsSome, is_some, option_map, option_and_then};
-ghost use Rattle.mh_model.specs.Bytes.{parts_at};
-ghost use Rattle.mh_model.specs.declared.dump.DumpItem.{DumpItem};
+ghost use Rattle.mh_model.specs.{Bytes.parts_at, declared.dump.DumpItem.DumpItem};
 ghost use Rattle.mh_model.specs.Replies.{placed_of, is_after, ascends, Ready, with_item, items_from, dump_of};
 ghost use Rattle.mh_history.specs.Dumps.{placed_numbers};
 

@@ -1,8 +1,7 @@
 //! Entries of histories, each read from its line. Most lines are cut at their first byte `=`, and those of which that
 //! says too little word by word, as the model does.
 ghost use Rattle.std.specs.Prelude.{◌≡◌, ◌∷◌, ◌++◌, [], codes, true, Some, None, IfOk, IfSome, IfNone, OnErr, IsSome, option_and_then};
-ghost use Rattle.mh_model.specs.Bytes.{words, numbers};
-ghost use Rattle.mh_model.specs.declared.history.Entry.{Entry};
+ghost use Rattle.mh_model.specs.{Bytes.{words, numbers}, declared.history.Entry.Entry};
 ghost use Rattle.mh_model.specs.declared.history.Version.TheVariants.{One};
 ghost use Rattle.mh_model.specs.HistoryTexts.{entry_by, entry_of, measured_of, measured_with};
 ghost use Rattle.mh_history.specs.Halves.{all_lack, IsAroundEquals};

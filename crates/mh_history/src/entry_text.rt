@@ -1,7 +1,6 @@
 //! The texts of the first line of version 2 and of controls, for `Display`. They are the model's.
 ghost use Rattle.std.specs.Prelude.{◌≡◌, Some};
-ghost use Rattle.mh_model.specs.Bytes.{joined};
-ghost use Rattle.mh_model.specs.Forms.{phrase_words, control_phrase};
+ghost use Rattle.mh_model.specs.{Bytes.joined, Forms.{phrase_words, control_phrase}};
 ghost use Rattle.mh_model.specs.HistoryTexts.{header_words, rules_number};
 
 use mh_model::command::Control;

@@ -2,8 +2,7 @@
 //! line is named. Out of memory is answered only if the text begins with an entry (`memory`). `history_lines` gives the
 //! lines after the first to those who keep no entry.
 ghost use Rattle.std.specs.Prelude.{◌≡◌, IfOk, IfErr, IsErrOf};
-ghost use Rattle.mh_model.specs.HistoryTexts.{history_reading};
-ghost use Rattle.mh_model.specs.Script.{BadLine, Means};
+ghost use Rattle.mh_model.specs.{HistoryTexts.history_reading, Script.{BadLine, Means}};
 ghost use Rattle.mh_text.specs.TextErrors.{Refuses};
 ghost use Rattle.mh_history.specs.Beginnings.{BeginsWithEntry, HasEntry, entries_left, line_as_entry};
 

@@ -4,10 +4,8 @@
 //! at least 6 bytes of text each. A legal dump has at most 266,240 items, which are 8.5 MB, so only a bad text has an
 //! entry that takes more.
 ghost use Rattle.std.specs.Prelude.{◌≡◌, ◌<◌, ℕ, List, [], drop, length, Option, IfOk, IfErr, IfSome, IfNone, OnErr, IsErrOf, IsSome};
-ghost use Rattle.mh_model.specs.Bytes.{words};
-ghost use Rattle.mh_model.specs.declared.history.Version.TheVariants.{One};
-ghost use Rattle.mh_model.specs.HistoryTexts.{entry_of, measured_of};
-ghost use Rattle.mh_model.specs.Script.{Means};
+ghost use Rattle.mh_model.specs.{Bytes.words, declared.history.Version.TheVariants.One};
+ghost use Rattle.mh_model.specs.{HistoryTexts.{entry_of, measured_of}, Script.Means};
 ghost use Rattle.mh_text.specs.TextErrors.{Refuses};
 ghost use Rattle.mh_history.specs.Beginnings.{entries_left, entry_before, HasEntry, TakesEntry};
 

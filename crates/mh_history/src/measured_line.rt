@@ -1,11 +1,8 @@
 //! The line of an entry with its units, added to a text. It is the model's, and so are an event and a reply that are
 //! added alone.
-ghost use Rattle.std.specs.Prelude.{◌≡◌, ◌++◌, ◌∷◌, [], map, decimal, OnOk};
-ghost use Rattle.std.specs.String.{string_bytes};
-ghost use Rattle.mh_model.specs.Bytes.{joined, line_text};
-ghost use Rattle.mh_model.specs.Forms.{phrase_words, command_phrase};
-ghost use Rattle.mh_model.specs.HistoryTexts.{event_words, measured_line};
-ghost use Rattle.mh_model.specs.Replies.{reply_text};
+ghost use Rattle.std.specs.{Prelude.{◌≡◌, ◌++◌, ◌∷◌, [], map, decimal, OnOk}, String.string_bytes};
+ghost use Rattle.mh_model.specs.{Bytes.{joined, line_text}, Forms.{phrase_words, command_phrase}};
+ghost use Rattle.mh_model.specs.{HistoryTexts.{event_words, measured_line}, Replies.reply_text};
 
 use crate::entry_text::ControlText;
 use itoa::Buffer;

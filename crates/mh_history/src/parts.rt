@@ -1,8 +1,7 @@
 //! What words of replies, events and dumps are: tagged numbers, shapes, refusals, phases and flags. It is apart, since
 //! several forms have the same parts.
 ghost use Rattle.std.specs.Prelude.{◌≡◌, ◌∷◌, [], length, nat_lt, Some, None, IfSome, IfNone};
-ghost use Rattle.mh_model.specs.Bytes.{tagged};
-ghost use Rattle.mh_model.specs.Forms.{within, formed, numbered, at, u32, u64};
+ghost use Rattle.mh_model.specs.{Bytes.tagged, Forms.{within, formed, numbered, at, u32, u64}};
 ghost use Rattle.mh_model.specs.Replies.{are_texts, phase_of, flag_of, optional_of, refusal_forms};
 ghost use Rattle.mh_text.specs.Names.{names_shown};
 

@@ -1,8 +1,7 @@
 //! Records: histories of version 2, with their configuration and the units of each entry. All that is said of those of
 //! version 1 in `history` holds of them.
 ghost use Rattle.std.specs.Prelude.{◌≡◌, IfOk, IfErr, IsErrOf};
-ghost use Rattle.mh_model.specs.HistoryTexts.{recorded_reading};
-ghost use Rattle.mh_model.specs.Script.{BadLine, Means};
+ghost use Rattle.mh_model.specs.{HistoryTexts.recorded_reading, Script.{BadLine, Means}};
 ghost use Rattle.mh_text.specs.TextErrors.{Refuses};
 ghost use Rattle.mh_history.specs.Beginnings.{BeginsWithMeasured, HasEntry, entries_left, line_as_measured, after_header};
 
@@ -45,13 +44,6 @@ impl Record {
         ensures { result.now ≡ self.now.entries }
     {
         self.entries.as_slice()
-    }
-
-    pub fn into_entries(self) -> Vec<Measured>
-        ensures { result.items ≡ self.entries }
-    {
-        let Record { config: _, entries } = self;
-        entries
     }
 }
 

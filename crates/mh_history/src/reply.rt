@@ -1,8 +1,7 @@
 //! Replies as histories write them. A well-formed one may have any numbers in the range of their types: 32 bits in
 //! `shape`, and 64 in all others. The first version doesn't know the reply `left`.
 ghost use Rattle.std.specs.Prelude.{◌≡◌, ◌∷◌, [], codes, false, IfOk, OnErr, IsSome};
-ghost use Rattle.mh_model.specs.Bytes.{is_text};
-ghost use Rattle.mh_model.specs.Replies.{reply_of};
+ghost use Rattle.mh_model.specs.{Bytes.is_text, Replies.reply_of};
 
 use crate::dump::dump_of;
 use crate::keyed::{report_of, spent_of, stat_of};

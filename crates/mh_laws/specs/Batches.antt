@@ -1,8 +1,6 @@
 -- Marking by batches: what a front of the grey list refers to is found at once, and then written back and shaded block by block.
 use Rattle.std.specs.Prelude.{◌≡◌, ◌⊎◌, ℕ, ◌+◌, ◌-◌, ◌<◌, ◌≤◌, Bool, List, [], ◌++◌, length}
-use Rattle.mh_model.specs.declared.cycle.Phase.TheVariants.{Mark}
-use Rattle.mh_model.specs.Pages.{Table}
-use Rattle.mh_model.specs.Table.{Block}
+use Rattle.mh_model.specs.{declared.cycle.Phase.TheVariants.Mark, Pages.Table, Table.Block}
 use Rattle.mh_model.specs.Collector.{Collector, Marking, first_mark_cost, with_units, steps}
 use Rattle.mh_model.specs.Batches.{NoneTwice, batch_cost, batch_marked, after_batch, longest_front}
 use Rattle.mh_table_laws.specs.Marking.{mark_steps}

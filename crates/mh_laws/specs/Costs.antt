@@ -1,11 +1,8 @@
 -- What quanta spend, and what their steps cost.
 use Rattle.std.specs.Prelude.{◌≤◌, Bool, List}
-use Rattle.mh_model.specs.declared.config.Config.{Config}
-use Rattle.mh_model.specs.declared.command.Event.{Event}
-use Rattle.mh_model.specs.Collector.{Collector, step_cost, quantum}
-use Rattle.mh_model.specs.Machine.{first_machine, half_step, machine_after}
-use Rattle.mh_model.specs.CycleBounds.{IsInBounds}
-use Rattle.mh_model.specs.Limits.{least_quantum}
+use Rattle.mh_model.specs.{declared.config.Config.Config, declared.command.Event.Event}
+use Rattle.mh_model.specs.{Collector.{Collector, step_cost, quantum}, Machine.{first_machine, half_step, machine_after}}
+use Rattle.mh_model.specs.{CycleBounds.IsInBounds, Limits.least_quantum}
 use Rattle.mh_table_laws.specs.Tables.{IsSized}
 
 -- No quantum spends more units than are configured

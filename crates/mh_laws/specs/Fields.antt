@@ -2,8 +2,7 @@
 use Rattle.std.specs.Prelude.{◌≡◌, ℕ, ◌+◌, ◌<◌, Option, Some, None, get_or}
 use Rattle.mh_model.specs.declared.shape.Shape.{Shape}
 use Rattle.mh_model.specs.Table.{Block, reference_at, LeadsOn, LeadsHome, position_of, reference_in, loaded_reference}
-use Rattle.mh_model.specs.Collector.{Collector}
-use Rattle.mh_model.specs.Mutator.{HeapState, root_at, shape_at}
+use Rattle.mh_model.specs.{Collector.Collector, Mutator.{HeapState, root_at, shape_at}}
 use Rattle.mh_model.specs.Invariant.{IsIn, IsPlainAt, LeadsToObject, IsKeeping, IsSteady, IsObjectAt, IsFindable, HasField}
 
 -- A slot of a kept heap holds the place of an object, whose shape is the one that is seen there; or it is empty, and no shape is seen

@@ -1,8 +1,6 @@
 -- Forwarders: a quantum leaves only those that its own defragmentation made.
 use Rattle.std.specs.Prelude.{◌≡◌, ◌⊎◌, ℕ, suc, true, false, Some, None}
-use Rattle.mh_model.specs.declared.config.Config.{Config}
-use Rattle.mh_model.specs.declared.cycle.Phase.TheVariants.{Sweep, Defrag}
-use Rattle.mh_model.specs.Pages.{Table}
+use Rattle.mh_model.specs.{declared.config.Config.Config, declared.cycle.Phase.TheVariants.{Sweep, Defrag}, Pages.Table}
 use Rattle.mh_model.specs.Table.{Block, forward_at}
 use Rattle.mh_model.specs.Collector.{Collector, is_idle, is_start_due, quantum_start, steps, quantum}
 use Rattle.mh_model.specs.Invariant.{in_trace, IsSteady}

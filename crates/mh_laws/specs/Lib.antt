@@ -8,4 +8,3 @@ pub mod Snapshots
 pub mod Barriers
 pub mod Fields
 pub mod Forwarders
-pub mod OfTableLaws

@@ -1,15 +1,9 @@
 -- What keeps the pages of tables, the slots of their classes, and blocks within the limits of objects.
 use Rattle.std.specs.Prelude.{◌≡◌, ℕ, ◌+◌, ◌≤◌, Some}
-use Rattle.mh_model.specs.declared.config.Config.{Config}
-use Rattle.mh_model.specs.declared.command.Command.{Command}
-use Rattle.mh_model.specs.declared.command.Event.{Event}
-use Rattle.mh_model.specs.World.{most_fields}
-use Rattle.mh_model.specs.Pages.{Table}
-use Rattle.mh_model.specs.Classes.{parts}
-use Rattle.mh_model.specs.Table.{Block, Made, made_group}
-use Rattle.mh_model.specs.Collector.{Collector, collector_step, quantum}
-use Rattle.mh_model.specs.Mutator.{HeapState, mutator_step}
-use Rattle.mh_model.specs.Invariant.{HasItsPages}
+use Rattle.mh_model.specs.{declared.config.Config.Config, declared.command.Command.Command}
+use Rattle.mh_model.specs.{declared.command.Event.Event, World.most_fields, Pages.Table, Classes.parts}
+use Rattle.mh_model.specs.{Table.{Block, Made, made_group}, Collector.{Collector, collector_step, quantum}}
+use Rattle.mh_model.specs.{Mutator.{HeapState, mutator_step}, Invariant.HasItsPages}
 use Rattle.mh_model.specs.Machine.{Machine, half_step, event_step}
 use Rattle.mh_table_laws.specs.Tables.{KeepsItsPages}
 

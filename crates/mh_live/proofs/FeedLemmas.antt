@@ -1,20 +1,13 @@
 -- What has been answered and told after one line more, and after bytes that end no line.
 use Rattle.std.proofs.Common.{◌≡◌, ◌<◌, ◌∙◌, ℕ, suc, List, [], ◌∷◌, ◌++◌, Option, length, length-append, take, ap, refl, sym, subst, append_assoc, arith}
-use Rattle.std.proofs.lemmas.List.{append-nil}
-use Rattle.std.proofs.KnownBytes.{Appends-nil, Appends-trans, Consumes-trans}
-use Rattle.std.specs.Io.KnownBytes.{Appends, Consumes, IsAtEnd}
-use Rattle.std.specs.Option.{option_to_list}
-use Rattle.std.specs.Prelude.{Err, IsErrOf}
-use Rattle.mh_model.specs.Bytes.{Text, Cut, cut_after}
-use Rattle.mh_text.specs.Stream.{AppendsBeginning}
-use Rattle.mh_model.specs.Live.{Live, Turn, IsTurn, IsLive, Taken, turn, unended_text}
-use Rattle.mh_script.specs.OfReasons.LineReason.{LineReason}
-use Rattle.mh_script.specs.declared.end.LineRefusal.{LineRefusal}
-use Rattle.mh_script.specs.declared.fault.ScriptFault.{ScriptFault}
+use Rattle.std.proofs.{lemmas.List.append-nil, KnownBytes.{Appends-nil, Appends-trans, Consumes-trans}}
+use Rattle.std.specs.{Io.KnownBytes.{Appends, Consumes, IsAtEnd}, Option.option_to_list, Prelude.{Err, IsErrOf}}
+use Rattle.mh_model.specs.{Bytes.{Text, Cut, cut_after}, Live.{Live, Turn, IsTurn, IsLive, Taken, turn, unended_text}}
+use Rattle.mh_text.specs.Devices.{AppendsBeginning}
+use Rattle.mh_reasons.specs.declared.reason.LineReason.{LineReason}
+use Rattle.mh_script.specs.{declared.end.LineRefusal.LineRefusal, declared.fault.ScriptFault.ScriptFault}
 use Rattle.mh_script.specs.declared.fault.ScriptFault.TheVariants.{Read, Write, NoMemory}
-use Rattle.mh_script.specs.declared.fault.WriteError.{WriteError}
-use Rattle.mh_script.specs.declared.fault.WriteError.TheVariants as cause
-use Rattle.mh_script.specs.Texts.{IsWriteFault}
+use Rattle.mh_script.specs.{declared.fault.WriteError.WriteError, Texts.IsWriteFault}
 use Rattle.mh_live.specs.declared.feed.Feed.{Feed}
 use Rattle.mh_live.specs.Feeding.{AnswersAll, AnswersFront, AnswersSome, AnswersWhole, BeginsAnswer, HasAnswered, IsFed, MayBegin, MayEndWith, TakesTurn, TurnsPartly, WritesPrefix}
 use Rattle.mh_live.specs.Heard.{AreHeard, Ended, IsHeard, IsLiveHeard, HeardRefusal, IsWhy, is_configured, refusal_of, unended_refusal}
@@ -24,15 +17,15 @@ use Rattle.mh_live.proofs.TurnLemmas.{are_turns, heard_more, heard_why, one_more
 -- One answer -------------------------------------------------------------------------------------
 
 may_begin_none : (error : WriteError) → MayBegin error []
-may_begin_none cause.Device = tt
-may_begin_none cause.NoMemory = refl
+may_begin_none WriteError.Device = tt
+may_begin_none WriteError.NoMemory = refl
 
 -- nothing of it was written
 pub none_written : (text : Text) (written : Option Text) (error : WriteError) → WritesPrefix text written written error
 none_written text written error = ([], text, refl, Appends-nil written, may_begin_none error)
 
 -- the sink failed at it
-pub part_written : (text : Text) (old new : Option Text) (error : WriteError) → error ≡ cause.Device → AppendsBeginning old new text → WritesPrefix text old new error
+pub part_written : (text : Text) (old new : Option Text) (error : WriteError) → error ≡ WriteError.Device → AppendsBeginning old new text → WritesPrefix text old new error
 part_written text old new error is part = (part.0, part.1, part.2, part.3, rw is tt)
 
 pub no_part : (feed : Feed) (written : Option Text) (error : WriteError) → TurnsPartly feed written written error
@@ -73,13 +66,13 @@ taken_line bytes taken rest piece next is left = is ∙ ap (λ t. taken ++ t) (l
 
 -- what a write error leaves of an answer, its fault does too
 may_end : (error : WriteError) (fault : ScriptFault) (begun : Text) → IsWriteFault error fault → MayBegin error begun → MayEndWith fault begun
-may_end cause.Device fault begun is may = rw is tt
-may_end cause.NoMemory fault begun is may = rw is may
+may_end WriteError.Device fault begun is may = rw is tt
+may_end WriteError.NoMemory fault begun is may = rw is may
 
 -- a write error is no failed read
 pub no_read : (error : WriteError) (fault : ScriptFault) → IsWriteFault error fault → IsErrOf {T = Unit {0}} (Err fault) Read → ⊥
-no_read cause.Device fault is read = let told : Write ≡ Read = cc in cc
-no_read cause.NoMemory fault is read = let told : NoMemory ≡ Read = cc in cc
+no_read WriteError.Device fault is read = let told : Write ≡ Read = cc in cc
+no_read WriteError.NoMemory fault is read = let told : NoMemory ≡ Read = cc in cc
 
 -- the source has lost these bytes, and then no more
 pub read_ended : (source mid source' : Option Text) (text more : Text) (count : ℕ) → Consumes source mid text → Consumes mid source' (take count more) → count ≡ 0 → Consumes source source' text

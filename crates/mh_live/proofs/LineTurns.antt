@@ -1,36 +1,21 @@
 -- The turn of a line by what it says.
 use Rattle.std.proofs.Common.{◌≡◌, ◌∙◌, ◌≤◌, ◌<◌, ℕ, if◌then◌else◌, ◌&&◌, ◌||◌, nat_lt, Bool, true, false, Option, Some, None, List, [], ◌∷◌, length, refl, sym, ap, subst, arith}
-use Rattle.std.specs.Prelude.{codes, is_none}
-use Rattle.std.proofs.lemmas.Bool.{false≢true}
-use Rattle.std.proofs.lemmas.Bool.{and_parts, lt-ltb, ltb-true}
-use Rattle.std.proofs.lemmas.Bool.Decides.{nat_tests}
-use Rattle.mh_model.specs.declared.command.Command.{Command}
-use Rattle.mh_model.specs.declared.command.Command.TheVariants as command
-use Rattle.mh_model.specs.declared.command.Control.{Control}
-use Rattle.mh_model.specs.declared.command.Event.{Event}
-use Rattle.mh_model.specs.declared.command.Event.TheVariants as event
-use Rattle.mh_model.specs.declared.config.Config.{Config}
-use Rattle.std.specs.List.{list_all}
+use Rattle.std.proofs.{lemmas.Bool.{false≢true, and_parts, lt-ltb, ltb-true}, lemmas.Bool.Decides.nat_tests}
+use Rattle.std.specs.{Prelude.{codes, is_none}, List.list_all}
+use Rattle.mh_model.specs.{declared.command.Command.Command, declared.command.Control.Control}
+use Rattle.mh_model.specs.{declared.command.Event.Event, declared.config.Config.Config}
 use Rattle.mh_model.specs.Bytes.{Text, is_digit, is_letter, is_name, is_text, line_text, words}
-use Rattle.mh_model.specs.Forms.{command_of, control_of}
-use Rattle.mh_model.specs.declared.history.Version.TheVariants.{Two}
-use Rattle.mh_model.specs.Limits.{most_events}
-use Rattle.mh_model.specs.declared.command.Control.TheVariants as control
-use Rattle.mh_model.specs.declared.reply.Reply.{Reply}
-use Rattle.mh_model.specs.declared.reply.Reply.TheVariants as reply
-use Rattle.mh_model.specs.World.{IsNew, never_full, refusal, says, sight_of}
+use Rattle.mh_model.specs.{Forms.{command_of, control_of}, declared.history.Version.TheVariants.Two, Limits.most_events}
+use Rattle.mh_model.specs.{declared.reply.Reply.Reply, World.{IsNew, never_full, refusal, says, sight_of}}
 use Rattle.mh_model.specs.Machine.{Machine, control_step, dump_pages, event_step, first_machine}
 use Rattle.mh_model.specs.Replies.{bad_line_text, reply_text}
 use Rattle.mh_model.specs.Script.{Line, Blank, Calls, Asks, Wrong, asks, calls, config_words, is_blank, line_of, line_words, session_number, with_name}
-use Rattle.mh_script.specs.OfMachine.Running.{Running, Does, MayAskForMemory, first_running}
-use Rattle.mh_script.specs.OfMachine.Stop.{Stop}
-use Rattle.mh_script.specs.OfMachine.Stop.TheVariants.{HistoryFull, NoMemory}
+use Rattle.mh_model.specs.Live.{Live, Grows, IsTurn, Runs, Taken, Turn, Waits, event_turn, makes_object, needs_memory, line_turn, turn, world_turn, Starved as starved}
+use Rattle.mh_machine.specs.{Running.{Running, Does, MayAskForMemory, first_running}, declared.machine.Stop.Stop}
+use Rattle.mh_machine.specs.declared.machine.Stop.TheVariants.{HistoryFull, NoMemory}
 use Rattle.mh_live.specs.Answers.{Done, Full, FullWorld, Grew, IsAnsweredOrNotDone, IsAnsweredOrNotGrown, Starved, StarvedWorld, full_line, starved_line, uncollected_line}
-use Rattle.mh_live.specs.Worlds.{Grown}
-use Rattle.mh_model.specs.Live.{Live, Grows, IsTurn, Runs, Taken, Turn, Waits, event_turn, makes_object, needs_memory, line_turn, turn, world_turn}
-use Rattle.mh_model.specs.Live.{Starved as starved}
-use Rattle.mh_script.specs.OfReasons.Reasons.{IsWrong}
-use Rattle.mh_live.specs.Heard.{is_configured}
+use Rattle.mh_live.specs.{Worlds.Grown, Heard.is_configured}
+use Rattle.mh_reasons.specs.Reasons.{IsWrong}
 
 -- a turn, in other words
 taken : (n : ℕ) (live : Live) (line : Text) (is : Turn) → turn n live line ≡ is → IsTurn n live line is
@@ -110,9 +95,9 @@ calls_says line name said is wrong = calls-wrong (sym is ∙ wrong)
 -- After it ---------------------------------------------------------------------------------------
 
 -- a control that may ask for memory is one for which the line needs it
-control_asks : (says : Control) (room : ℕ) → MayAskForMemory room (event.Control says) → needs_memory (Asks says) ≡ true
-control_asks control.Quantum room asks = refl
-control_asks control.Dump room asks = refl
+control_asks : (says : Control) (room : ℕ) → MayAskForMemory room (Event.Control says) → needs_memory (Asks says) ≡ true
+control_asks Control.Quantum room asks = refl
+control_asks Control.Dump room asks = refl
 control_asks asked room asks = absurd asks
 
 module _ (n : ℕ) (old : Running) (names : List Text) (line : Text) where
@@ -140,16 +125,16 @@ module _ (n : ℕ) (old : Running) (names : List Text) (line : Text) where
     event_runs new text _ after has (Full full same kept) named = taken n before line _ (by_event ∙ rw (not_below old.done most_events full, same, kept, named) refl)
     event_runs new text _ after has (Starved asks same kept) named = rw (same, kept, named) (starved (rw is (has asks)))
 
-  pub asks_runs : (control : Control) (new : Running) (text : Text) (is_done : Bool) → line_of line ≡ Asks control → IsAnsweredOrNotDone old (event.Control control) text new is_done
+  pub asks_runs : (control : Control) (new : Running) (text : Text) (is_done : Bool) → line_of line ≡ Asks control → IsAnsweredOrNotDone old (Event.Control control) text new is_done
       → IsTurn n before line (record { text = text; live = Runs new.machine names new.done })
-  asks_runs control new text is_done is answered = event_runs (Asks control) is (event.Control control) names refl new text is_done names (control_asks control old.room) answered (same_either is_done) where
+  asks_runs control new text is_done is answered = event_runs (Asks control) is (Event.Control control) names refl new text is_done names (control_asks control old.room) answered (same_either is_done) where
     same_either : (b : Bool) → names ≡ (if b then names else names)
     same_either true = refl
     same_either false = refl
 
-  pub calls_runs : (name : Text) (command : Command) (new : Running) (text : Text) (is_done : Bool) (after : List Text) → line_of line ≡ Calls name command → IsAnsweredOrNotDone old (event.Session (session_number names name) command) text new is_done
+  pub calls_runs : (name : Text) (command : Command) (new : Running) (text : Text) (is_done : Bool) (after : List Text) → line_of line ≡ Calls name command → IsAnsweredOrNotDone old (Event.Session (session_number names name) command) text new is_done
       → after ≡ (if is_done then with_name names name else names) → IsTurn n before line (record { text = text; live = Runs new.machine after new.done })
-  calls_runs name command new text is_done after is = event_runs (Calls name command) is (event.Session (session_number names name) command) (with_name names name) refl new text is_done after (λ _. refl)
+  calls_runs name command new text is_done after is = event_runs (Calls name command) is (Event.Session (session_number names name) command) (with_name names name) refl new text is_done after (λ _. refl)
 
 -- In a world ------------------------------------------------------------------------------------
 
@@ -175,7 +160,7 @@ module _ (n : ℕ) (old : Grown) (names : List Text) (line : Text) where
 
   -- memory is refused for a new object alone
   makes : (name : Text) (said : Command) → IsNew said → refusal (sight_of never_full old.world) (session_number names name) said ≡ None → makes_object old.world names (Calls name said) ≡ true
-  makes name (command.New slot references numbers) new none = ap is_none none
+  makes name (Command.New slot references numbers) new none = ap is_none none
   makes name asked new none = absurd new
 
   pub calls_grows : (name : Text) (said : Command) (new : Grown) (text : Text) (is_done : Bool) (after : List Text) → line_of line ≡ Calls name said → IsAnsweredOrNotGrown old (session_number names name) said text new is_done
@@ -187,12 +172,12 @@ module _ (n : ℕ) (old : Grown) (names : List Text) (line : Text) where
 
 -- A dump's reply is what the machine shows, whatever step it is asked in ---------------------------
 
-dump_reply : (machine new : Machine) (given : Reply) → event_step machine (event.Control control.Dump) ≡ says given new → reply.Dump (dump_pages 0 machine.heap.collector.table) ≡ given
+dump_reply : (machine new : Machine) (given : Reply) → event_step machine (Event.Control Control.Dump) ≡ says given new → Reply.Dump (dump_pages 0 machine.heap.collector.table) ≡ given
 unfolding event_step control_step
 dump_reply machine new given e = ap (λ answer. answer.reply) e
 
-pub dump_done : (old new : Running) (given : Reply) (text : Text) → old.done < most_events → Does old (event.Control control.Dump) given new
-    → text ≡ line_text (reply_text (reply.Dump (dump_pages 0 old.machine.heap.collector.table))) → IsAnsweredOrNotDone old (event.Control control.Dump) text new true
+pub dump_done : (old new : Running) (given : Reply) (text : Text) → old.done < most_events → Does old (Event.Control Control.Dump) given new
+    → text ≡ line_text (reply_text (Reply.Dump (dump_pages 0 old.machine.heap.collector.table))) → IsAnsweredOrNotDone old (Event.Control Control.Dump) text new true
 dump_done old new given text below does is = Done given below does (is ∙ ap (λ r. line_text (reply_text r)) (dump_reply old.machine new.machine given does.step))
 
 -- An event that isn't done -------------------------------------------------------------------------

@@ -1,28 +1,22 @@
 -- The answers to lines, in turn, keep the promise.
 use Rattle.std.proofs.Common.{◌≡◌, ◌∙◌, ◌≤◌, ◌<◌, inl, inr, ℕ, suc, ◌+◌, if◌then◌else◌, nat_lt, Bool, true, false, ◌&&◌, not, is_some, Option, Some, None, List, [], ◌∷◌, ◌++◌, length, refl, sym, ap, subst, arith}
-use Rattle.std.proofs.lemmas.Bool.Decides.{nat_tests}
-use Rattle.std.proofs.lemmas.List.{append-nil}
-use Rattle.std.specs.Io.KnownBytes.{Appends, Consumes}
-use Rattle.std.specs.Prelude.{Result, Ok, Err, IfErr, OnOk, IsErrOf}
-use Rattle.mh_model.specs.declared.command.Event.{Event}
-use Rattle.mh_model.specs.declared.command.Event.TheVariants as event
-use Rattle.mh_model.specs.declared.config.Config.{Config}
-use Rattle.mh_model.specs.Bytes.{Text, cut_after, line_text, words}
-use Rattle.mh_model.specs.Limits.{most_events}
-use Rattle.mh_model.specs.Live as model
+use Rattle.std.proofs.{lemmas.Bool.Decides.nat_tests, lemmas.List.append-nil}
+use Rattle.std.specs.{Io.KnownBytes.{Appends, Consumes}, Prelude.{Result, Ok, Err, IfErr, OnOk, IsErrOf}}
+use Rattle.mh_model.specs.{declared.command.Event.Event, declared.config.Config.Config}
+use Rattle.mh_model.specs.{Bytes.{Text, cut_after, line_text, words}, Limits.most_events}
 use Rattle.mh_model.specs.Live.{AreTurns, IsTurn, Live, Runs, Starved, Taken, Turn, Turned, Waits, answers_line, config_turn, event_turn, line_turn, needs_memory, takes_memory, turn}
 use Rattle.mh_model.specs.Machine.{Machine, event_step, first_machine, machine_after, machine_replies}
 use Rattle.mh_model.specs.Replies.{bad_line_text, reply_text}
 use Rattle.mh_model.specs.Script.{Line, Asks, Blank, Calls, Wrong, config_words, is_blank, line_of, session_number}
 use Rattle.mh_promise.specs.Promise.{RepliesArePromised}
-use Rattle.mh_script.specs.declared.end.LineRefusal.{LineRefusal}
-use Rattle.mh_script.specs.declared.fault.ScriptFault.{ScriptFault}
+use Rattle.mh_script.specs.declared.{end.LineRefusal.LineRefusal, fault.ScriptFault.ScriptFault}
 use Rattle.mh_script.specs.declared.fault.ScriptFault.TheVariants.{Read}
 use Rattle.mh_live.specs.Answers.{full_line, starved_line}
 use Rattle.mh_live.specs.Feeding.{AnswersAll, AnswersFront, AnswersWhole, FollowsAnswers, KeepsLivePromise}
 use Rattle.mh_live.specs.Heard.{AreHeard}
 use Rattle.mh_live.specs.Promised.{ArePromisedAnswers, DoesNothing, Does, Ended, LeavesWaiting, Opened, Passes, ShowReplies, Unopened, Waiting, line_event, names_after}
 use Rattle.mh_live.proofs.TurnLemmas.{are_turns}
+use Rattle.mh_model.specs.Live as model
 
 -- what a machine does at lines: the events, to which its replies are shown, and where it stands then
 record Shows (n : ℕ) (machine : Machine) (names : List Text) (count : ℕ) (lines : List Text) (text : Text) (after : Live) : Type 0 where
@@ -76,8 +70,8 @@ module _ (n : ℕ) (machine : Machine) (names : List Text) (count : ℕ) (line :
   by_line : (says : Line) → line_of line ≡ says → AreTurns (suc n) (line_turn n machine names count says).live lines text after → Shows n machine names count (line ∷ lines) ((line_turn n machine names count says).text ++ text) after
   by_line Blank is rest = passed_by Blank is [] refl rest
   by_line Wrong is rest = passed_by Wrong is (line_text (bad_line_text n)) refl rest
-  by_line (Calls name said) is rest = by_event (Calls name said) is (event.Session (session_number names name) said) refl (λ full. inl (full, refl)) rest
-  by_line (Asks control) is rest = by_event (Asks control) is (event.Control control) refl (λ full. inl (full, refl)) rest
+  by_line (Calls name said) is rest = by_event (Calls name said) is (Event.Session (session_number names name) said) refl (λ full. inl (full, refl)) rest
+  by_line (Asks control) is rest = by_event (Asks control) is (Event.Control control) refl (λ full. inl (full, refl)) rest
 
   -- one for which memory was refused
   starved : (says : Line) → line_of line ≡ says → needs_memory says ≡ true → AreTurns (suc n) (Runs machine names count) lines text after → Shows n machine names count (line ∷ lines) (starved_line ++ text) after

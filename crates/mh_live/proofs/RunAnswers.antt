@@ -1,18 +1,13 @@
 -- A script is answered line by line as its run answers it.
 use Rattle.std.proofs.Common.{◌≡◌, ◌∙◌, ◌≤◌, ◌<◌, ℕ, suc, ◌+◌, if◌then◌else◌, nat_lt, append_assoc, Bool, true, false, Option, Some, None, List, [], ◌∷◌, ◌++◌, length, map, refl, sym, ap, subst, arith}
-use Rattle.std.proofs.lemmas.Bool.{lt-ltb}
-use Rattle.std.proofs.lemmas.List.{take_all}
-use Rattle.mh_model.specs.declared.command.Event.{Event}
-use Rattle.mh_model.specs.declared.command.Event.TheVariants as event
-use Rattle.mh_model.specs.declared.config.Config.{Config}
-use Rattle.mh_model.specs.Bytes.{Text, cut_after, line_text, words}
-use Rattle.mh_model.specs.Limits.{most_entries, most_events}
-use Rattle.mh_model.specs.Machine.{Machine, event_step, first_machine, machine_replies}
-use Rattle.mh_model.specs.Output.{output, output_of}
+use Rattle.std.proofs.{lemmas.Bool.lt-ltb, lemmas.List.take_all}
+use Rattle.mh_model.specs.{declared.command.Event.Event, declared.config.Config.Config}
+use Rattle.mh_model.specs.{Bytes.{Text, cut_after, line_text, words}, Limits.{most_entries, most_events}}
+use Rattle.mh_model.specs.{Machine.{Machine, event_step, first_machine, machine_replies}, Output.{output, output_of}}
 use Rattle.mh_model.specs.Replies.{replies_text, reply_text}
 use Rattle.mh_model.specs.Script.{Asks, BadLine, Blank, Calls, Line, Meaning, Means, Reading, Wrong, after_config, config_words, events_from, is_blank, line_of, reading, reading_map, script_from, script_of, session_number, with_event, with_name}
-use Rattle.mh_live.specs.Laws.{ScriptsAreAnsweredAsRun, TextsHaveAnswers}
 use Rattle.mh_model.specs.Live.{AreTurns, Ended, Live, Runs, Taken, Turn, Turned, Waits, event_turn, line_turn, live_from, live_output, turn, unended_text}
+use Rattle.mh_live.specs.Laws.{ScriptsAreAnsweredAsRun, TextsHaveAnswers}
 
 -- what a reading of a bad line means
 bad-means : {X : Type 0} {n : ℕ} {x : X} → BadLine n ≡ Means x → ⊥
@@ -82,8 +77,8 @@ after (line ∷ lines) n machine names count rest events e few = by_line (λ m n
 
   by_line : Later (suc n) lines rest → (says : Line) → line_of line ≡ says → events_from names n (says ∷ map line_of lines) rest ≡ Means events → live_then (suc n) lines rest (turn n (Runs machine names count) line) ≡ replies_text (machine_replies machine events)
   by_line later Blank is e = ap (live_then (suc n) lines rest) (turn_by n machine names count line Blank is) ∙ later machine names count events e few
-  by_line later (Calls name command) is e = by_event later (event.Session (session_number names name) command) (with_name names name) (turn_by n machine names count line (Calls name command) is) e
-  by_line later (Asks control) is e = by_event later (event.Control control) names (turn_by n machine names count line (Asks control) is) e
+  by_line later (Calls name command) is e = by_event later (Event.Session (session_number names name) command) (with_name names name) (turn_by n machine names count line (Calls name command) is) e
+  by_line later (Asks control) is e = by_event later (Event.Control control) names (turn_by n machine names count line (Asks control) is) e
   by_line later Wrong is e = absurd (bad-means e)
 
 -- Before the configuration -------------------------------------------------------------------------

@@ -2,12 +2,11 @@
 use Rattle.std.proofs.Common.{◌≡◌, ℕ, suc, ◌+◌, Option, Some, None, List, [], ◌∷◌, ◌++◌, length, refl, sym, subst, append_assoc, arith}
 use Rattle.std.proofs.lemmas.List.{append-nil}
 use Rattle.std.specs.Option.{option_to_list}
-use Rattle.mh_model.specs.Bytes.{Text}
-use Rattle.mh_model.specs.Live.{Live, Turn, IsTurn, AreTurns}
-use Rattle.mh_model.specs.Live as model
-use Rattle.mh_script.specs.OfReasons.LineReason.{LineReason}
+use Rattle.mh_model.specs.{Bytes.Text, Live.{Live, Turn, IsTurn, AreTurns}}
+use Rattle.mh_reasons.specs.declared.reason.LineReason.{LineReason}
 use Rattle.mh_script.specs.declared.end.LineRefusal.{LineRefusal}
 use Rattle.mh_live.specs.Heard.{AreHeard, Ended, IsHeard, HeardRefusal, IsWhy, Turned, is_configured, refusal_of}
+use Rattle.mh_model.specs.Live as model
 
 -- what is heard of lines in turn are turns
 pub are_turns : {n : ℕ} {live : Live} {lines : List Text} {refusals : List LineRefusal} {answers : Text} {after : Live} → AreHeard n live lines refusals answers after → AreTurns n live lines answers after

@@ -1,21 +1,13 @@
 -- What an event of a line is answered, and where a run by lines stands.
 use Rattle.std.specs.Prelude.{◌≡◌, ◌<◌, ◌≤◌, ℕ, Bool, true, false, None, codes}
-use Rattle.mh_model.specs.declared.command.Command.{Command}
-use Rattle.mh_model.specs.declared.command.Event.{Event}
-use Rattle.mh_model.specs.declared.config.Config.{Config}
-use Rattle.mh_model.specs.declared.config.Rules.{Rules}
-use Rattle.mh_model.specs.declared.reply.Reply.{Reply}
-use Rattle.mh_model.specs.Bytes.{Text, line_text}
-use Rattle.mh_model.specs.Limits.{most_events}
-use Rattle.mh_model.specs.Live.{Live, Waits, Runs, Grows, first_world_live}
-use Rattle.mh_model.specs.Replies.{reply_text}
+use Rattle.mh_model.specs.{declared.command.Command.Command, declared.command.Event.Event}
+use Rattle.mh_model.specs.{declared.config.Config.Config, declared.config.Rules.Rules, declared.reply.Reply.Reply}
+use Rattle.mh_model.specs.{Bytes.{Text, line_text}, Limits.most_events}
+use Rattle.mh_model.specs.{Live.{Live, Waits, Runs, Grows, first_world_live}, Replies.reply_text}
 use Rattle.mh_model.specs.World.{IsNew, never_full, refusal, sight_of}
-use Rattle.mh_script.specs.OfMachine.Running.{Running, Does, MayAskForMemory}
-use Rattle.mh_live.specs.declared.live.AttendedMachine.{AttendedMachine}
-use Rattle.mh_live.specs.declared.live.AttendedWorld.{AttendedWorld}
-use Rattle.mh_live.specs.declared.live.Attended.{Attended}
-use Rattle.mh_live.specs.declared.live.Attended.TheVariants as attended
-use Rattle.mh_live.specs.Worlds.{Grown, Growing}
+use Rattle.mh_machine.specs.Running.{Running, Does, MayAskForMemory}
+use Rattle.mh_live.specs.{declared.live.AttendedMachine.AttendedMachine, declared.live.AttendedWorld.AttendedWorld}
+use Rattle.mh_live.specs.{declared.live.Attended.Attended, Worlds.{Grown, Growing}}
 
 -- the lines of an event that isn't done: after the last of all, for refused memory, and for a control in a world
 abbrev pub full_line : Text
@@ -47,9 +39,9 @@ abbrev pub grows_of : AttendedWorld → Live
 grows_of run = Grows run.world.world run.names run.world.done
 
 abbrev pub live_of : Attended → Live
-live_of attended.Nothing = Waits
-live_of (attended.Machine run) = runs_of run
-live_of (attended.World run) = grows_of run
+live_of Attended.Nothing = Waits
+live_of (Attended.Machine run) = runs_of run
+live_of (Attended.World run) = grows_of run
 
 -- a run in a world that has answered no line, under these rules
 abbrev pub IsOfRules : Rules → Live → Type 0

@@ -1,19 +1,11 @@
 -- What the lines that came so far were answered, and what was told of them.
 use Rattle.std.specs.Prelude.{◌≡◌, ℕ, suc, Option, List, [], ◌∷◌, ◌++◌, length, Result, Ok, Err, IfErr, OnOk, IsErrOf}
 use Rattle.std.specs.Io.KnownBytes.{Appends, Consumes, IsAtEnd}
-use Rattle.mh_model.specs.Bytes.{Text, cut_after}
-use Rattle.mh_model.specs.Live.{Live, Turn, Waits, IsTurn, IsLive, unended_text}
-use Rattle.mh_text.specs.Stream.{ConsumesSome}
-use Rattle.mh_live.specs.declared.feed.Feed.{Feed}
-use Rattle.mh_live.specs.Heard.{AreHeard, IsHeard, IsLiveHeard}
-use Rattle.mh_live.specs.Promised.{ArePromisedAnswers}
-use Rattle.mh_script.specs.declared.end.LineRefusal.{LineRefusal}
-use Rattle.mh_script.specs.declared.fault.ScriptFault.{ScriptFault}
-use Rattle.mh_script.specs.declared.fault.ScriptFault.TheVariants.{Read, Write, NoMemory}
-use Rattle.mh_script.specs.declared.fault.WriteError.{WriteError}
-use Rattle.mh_script.specs.declared.fault.WriteError.TheVariants as cause
-use Rattle.mh_script.specs.Run.{Device}
-use Rattle.mh_script.specs.Texts.{Blames}
+use Rattle.mh_model.specs.{Bytes.{Text, cut_after}, Live.{Live, Turn, Waits, IsTurn, IsLive, unended_text}}
+use Rattle.mh_text.specs.Devices.{Device, Fails, GivesSome, Works}
+use Rattle.mh_live.specs.{declared.feed.Feed.Feed, Heard.{AreHeard, IsHeard, IsLiveHeard}, Promised.ArePromisedAnswers}
+use Rattle.mh_script.specs.declared.{end.LineRefusal.LineRefusal, fault.ScriptFault.ScriptFault}
+use Rattle.mh_script.specs.declared.{fault.ScriptFault.TheVariants.{Read, Write, NoMemory}, fault.WriteError.WriteError}
 
 -- the whole lines of a text were answered and the refused ones told, and what follows the last of them is kept. `opened` is where the run stood before the first line
 pub record HasAnswered (opened : Live) (Hears : List LineRefusal → Type 0) (text : Text) (old new : Option Text) (number : ℕ) (live : Live) (begun : Text) : Type 0 where
@@ -33,8 +25,8 @@ IsFed opened Hears text first new feed = HasAnswered opened Hears text first new
 
 -- what may have been written of an answer that isn't whole: nothing, unless the sink failed
 abbrev pub MayBegin : WriteError → Text → Type 0
-MayBegin cause.Device begun = Unit {0}
-MayBegin cause.NoMemory begun = begun ≡ []
+MayBegin WriteError.Device begun = Unit {0}
+MayBegin WriteError.NoMemory begun = begun ≡ []
 
 abbrev pub MayEndWith : ScriptFault → Text → Type 0
 MayEndWith Write begun = Unit {0}
@@ -137,11 +129,17 @@ pub record KeepsLivePromise (source source' sink sink' : Option Text) (ended : R
   pub follows : FollowsAnswers ended (suc (length lines)) after later (cut_after 10 text).rest last
   pub wrote : Appends sink sink' (answers ++ last)
 
+-- by their counts of failures a device failed just if it is blamed
+abbrev pub Blames : (source source' sink sink' : Device) → Result Unit ScriptFault → Type 0
+Blames source source' sink sink' (Err Read) = Fails source source' × Works sink sink'
+Blames source source' sink sink' (Err Write) = Works source source' × Fails sink sink'
+Blames source source' sink sink' ended = Works source source' × Works sink sink'
+
 -- Lines of a source were answered as they came and the refused ones told, and how that ended
 pub record IsLiveRun (opened : Live) (Hears : List LineRefusal → Type 0) (source source' sink sink' : Device) (ended : Result Unit ScriptFault) : Type 0 where
   pub promise : opened ≡ Waits → KeepsLivePromise source.bytes source'.bytes sink.bytes sink'.bytes ended
   pub answered : OnOk ended (AnswersAll opened Hears source.bytes source'.bytes sink.bytes sink'.bytes)
   pub begun : IfErr ended (AnswersFront opened Hears source.bytes source'.bytes sink.bytes sink'.bytes)
   pub prompt : IsErrOf ended Read → AnswersWhole opened Hears source.bytes source'.bytes sink.bytes sink'.bytes
-  pub memory : IsErrOf ended NoMemory → ConsumesSome source.bytes source'.bytes
-  pub blames : Blames source.failures source'.failures sink.failures sink'.failures ended
+  pub memory : IsErrOf ended NoMemory → GivesSome source source'
+  pub blames : Blames source source' sink sink' ended

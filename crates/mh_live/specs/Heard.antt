@@ -1,11 +1,10 @@
 -- Which lines are outside the grammar, why, and what a listener hears of them.
 use Rattle.std.specs.Prelude.{◌≡◌, ℕ, suc, Bool, true, false, Option, Some, None, List, [], ◌∷◌, ◌++◌, length}
 use Rattle.std.specs.Option.{option_to_list}
-use Rattle.mh_model.specs.Bytes.{Text, cut_after}
-use Rattle.mh_model.specs.Live.{Live, Turn, Waits, Runs, Grows, IsTurn, unended_text}
-use Rattle.mh_script.specs.OfReasons.LineReason.{LineReason}
-use Rattle.mh_script.specs.OfReasons.ScriptReason.TheVariants.{Line, NoNewline}
-use Rattle.mh_script.specs.OfReasons.Reasons.{IsLineReason, IsWrong}
+use Rattle.mh_model.specs.{Bytes.{Text, cut_after}, Live.{Live, Turn, Waits, Runs, Grows, IsTurn, unended_text}}
+use Rattle.mh_reasons.specs.declared.reason.LineReason.{LineReason}
+use Rattle.mh_reasons.specs.declared.reason.ScriptReason.TheVariants.{Line, NoNewline}
+use Rattle.mh_reasons.specs.Reasons.{IsLineReason, IsWrong}
 use Rattle.mh_script.specs.declared.end.LineRefusal.{LineRefusal}
 
 -- whether the configuration has come; a world waits for none

@@ -1,9 +1,6 @@
 -- What is answered line by line, beside what a run of the whole script writes.
 use Rattle.std.specs.Prelude.{◌≡◌, ◌≤◌, length}
-use Rattle.mh_model.specs.Bytes.{Text}
-use Rattle.mh_model.specs.Limits.{most_entries}
-use Rattle.mh_model.specs.Output.{output}
-use Rattle.mh_model.specs.Script.{Meaning, Means, reading}
+use Rattle.mh_model.specs.{Bytes.Text, Limits.most_entries, Output.output, Script.{Meaning, Means, reading}}
 use Rattle.mh_model.specs.Live.{Live, Waits, IsLive, live_output}
 
 -- A script whose events a history has room for is answered with the output of its run

@@ -1,14 +1,8 @@
 -- What lines promise that are answered as they come: their answers show the machine's replies, which are those of an outcome that keeps the promise.
 use Rattle.std.specs.Prelude.{◌≡◌, ◌<◌, ◌≤◌, ◌⊎◌, ℕ, suc, Bool, true, false, Option, Some, None, List, [], ◌∷◌, ◌++◌, length}
-use Rattle.mh_model.specs.declared.command.Event.{Event}
-use Rattle.mh_model.specs.declared.command.Event.TheVariants as event
-use Rattle.mh_model.specs.declared.config.Config.{Config}
-use Rattle.mh_model.specs.declared.reply.Reply.{Reply}
-use Rattle.mh_model.specs.Bytes.{Text, line_text, words}
-use Rattle.mh_model.specs.Limits.{most_events}
-use Rattle.mh_model.specs.Live.{Live, Runs, Waits, needs_memory}
-use Rattle.mh_model.specs.Machine.{first_machine, machine_after, machine_replies}
-use Rattle.mh_model.specs.Replies.{bad_line_text, reply_text}
+use Rattle.mh_model.specs.{declared.command.Event.Event, declared.config.Config.Config, declared.reply.Reply.Reply}
+use Rattle.mh_model.specs.{Bytes.{Text, line_text, words}, Limits.most_events, Live.{Live, Runs, Waits, needs_memory}}
+use Rattle.mh_model.specs.{Machine.{first_machine, machine_after, machine_replies}, Replies.{bad_line_text, reply_text}}
 use Rattle.mh_model.specs.Script.{Line, Asks, Blank, Calls, Wrong, config_words, is_blank, line_of, session_number, with_name}
 use Rattle.mh_promise.specs.Promise.{ArePromised}
 use Rattle.mh_live.specs.Answers.{full_line, starved_line}
@@ -19,8 +13,8 @@ use Rattle.mh_live.specs.Answers.{full_line, starved_line}
 abbrev pub line_event : List Text → Line → Option Event
 line_event names Blank = None
 line_event names Wrong = None
-line_event names (Calls name command) = Some (event.Session (session_number names name) command)
-line_event names (Asks control) = Some (event.Control control)
+line_event names (Calls name command) = Some (Event.Session (session_number names name) command)
+line_event names (Asks control) = Some (Event.Control control)
 
 -- the names seen once the event of a line is done
 abbrev pub names_after : List Text → Line → List Text

@@ -1,10 +1,7 @@
 -- A world that a program drives, and what a command makes of it.
 use Rattle.std.specs.Prelude.{◌≡◌, ◌<◌, ℕ, suc}
-use Rattle.mh_model.specs.declared.command.Command.{Command}
-use Rattle.mh_model.specs.declared.config.Config.{Config}
-use Rattle.mh_model.specs.declared.reply.Reply.{Reply}
-use Rattle.mh_model.specs.Limits.{most_events}
-use Rattle.mh_model.specs.World.{World, first_world, says, world_step}
+use Rattle.mh_model.specs.{declared.command.Command.Command, declared.config.Config.Config, declared.reply.Reply.Reply}
+use Rattle.mh_model.specs.{Limits.most_events, World.{World, first_world, says, world_step}}
 
 -- a world, and how many commands it has done
 pub record Grown : Type 0 where

@@ -4,23 +4,20 @@
 //! dump is made before the dump is done. An event past the last that a machine or a world does is answered
 //! `refused 8 history full`, however many come, and a control in a world `refused 11 no collector`. Contracts of this
 //! file alone say that it is refused only to an event that may ask for it (`MayAskForMemory` of `mh_machine`).
-ghost use Rattle.std.specs.Prelude.{◌≡◌, [], ◌++◌, IfOk, OnOk};
-ghost use Rattle.std.specs.String.{string_bytes};
-ghost use Rattle.mh_model.specs.Bytes.{line_text};
-ghost use Rattle.mh_model.specs.Machine.{dump_pages};
-ghost use Rattle.mh_model.specs.Replies.{bad_line_text, reply_text};
+ghost use Rattle.std.specs.{Prelude.{◌≡◌, [], ◌++◌, IfOk, OnOk}, String.string_bytes};
+ghost use Rattle.mh_model.specs.{Bytes.line_text, Machine.dump_pages, Replies.{bad_line_text, reply_text}};
+ghost use Rattle.mh_live.specs.Answers.{IsAnsweredOrNotDone, IsAnsweredOrNotGrown, full_line, starved_line, uncollected_line};
+ghost use Rattle.mh_machine.specs.declared.machine.Stop.{Stop};
 ghost use Rattle.mh_model.specs.declared.command.Control.TheVariants as control;
 ghost use Rattle.mh_model.specs.declared.command.Event.TheVariants as event;
 ghost use Rattle.mh_model.specs.declared.reply.Reply.TheVariants as reply;
-ghost use Rattle.mh_live.specs.Answers.{IsAnsweredOrNotDone, IsAnsweredOrNotGrown, full_line, starved_line, uncollected_line};
-ghost use Rattle.mh_script.specs.OfMachine.Stop.{Stop};
 
 use crate::growing::GrowingWorld;
+use mh_machine::machine::{Machine, Stop};
 use mh_model::command::{Command, Control, Event};
 use mh_model::memory::NoMemory;
 use mh_model::reply::Reply;
-use mh_script::mh_machine::machine::{Machine, Stop};
-use mh_script::mh_scan::scan::Scanner;
+use mh_scan::scan::Scanner;
 use mh_text::reply_line::push_reply_line;
 use std::alloc::Global;
 use std::fmt::Write;

@@ -15,25 +15,23 @@
 //! whoever waits for the answer never waits for the listener.
 //!
 //! The buffer of answers keeps its room, so that a short reply takes memory only once.
-ghost use Rattle.std.specs.Prelude.{◌≡◌, ◌<◌, ◌≤◌, ◌^◌, ◌++◌, [], Option, IfErr, OnOk, OnErr, IsErrOf, length};
-ghost use Rattle.mh_model.specs.Bytes.{Text};
-ghost use Rattle.mh_text.specs.Stream.{ConsumesSome};
-ghost use Rattle.mh_live.specs.Feeding.{AnswersAll, AnswersFront, AnswersSome, AnswersWhole, IsFed, KeepsLivePromise, MayBegin, TakesTurn, TurnsPartly, WritesPrefix};
+ghost use Rattle.std.specs.Prelude.{◌≡◌, ◌<◌, ◌≤◌, ◌++◌, [], Option, IfErr, OnOk, OnErr, IsErrOf, length};
+ghost use Rattle.std.specs.Io.KnownBytes.{Appends};
+ghost use Rattle.mh_model.specs.{Bytes.Text, Live.{Waits, unended_text}};
+ghost use Rattle.mh_text.specs.Devices.{Fails, GivesSome, Works};
+ghost use Rattle.mh_live.specs.Feeding.{AnswersAll, AnswersFront, AnswersSome, AnswersWhole, Blames, IsFed, KeepsLivePromise, MayBegin, TakesTurn, TurnsPartly, WritesPrefix};
 ghost use Rattle.mh_live.specs.Heard.{HeardRefusal, refusal_of, unended_refusal};
 ghost use Rattle.mh_model.specs.Live as model;
-ghost use Rattle.mh_model.specs.Live.{Waits, unended_text};
-ghost use Rattle.mh_script.specs.Texts.{Blames};
-ghost use Rattle.std.specs.Io.KnownBytes.{Appends};
 
 use crate::answer::refused;
 use crate::listener::Listener;
 use crate::live::Live;
+use mh_promise::promise::replies_are_promised;
+use mh_reasons::reason::{LineReason, ScriptReason};
+use mh_scan::crew_scan::{CrewGate, CrewScan};
+use mh_scan::scan::Scanner;
 use mh_script::end::LineRefusal;
 use mh_script::fault::{ScriptFault, WriteError};
-use mh_script::mh_promise::promise::replies_are_promised;
-use mh_script::mh_reasons::reason::{LineReason, ScriptReason};
-use mh_script::mh_scan::crew_scan::{CrewGate, CrewScan};
-use mh_script::mh_scan::scan::Scanner;
 use mh_text::pieces::split_at_byte;
 use mh_text::sink::Sink;
 use mh_text::source::Source;
@@ -87,13 +85,12 @@ impl Feed {
         sink: &mut W,
         listener: &mut L,
     ) -> Result<(), WriteError>
-        requires { W.failures sink.old < 2 ^ 62 }
-        ensures done { OnOk result (TakesTurn (λ refusal. HeardRefusal L.hears listener.old refusal listener.new) self.old self.new (W.written sink.old) (W.written sink.new)) }
-        ensures begun { IfErr result (TurnsPartly self.old (W.written sink.old) (W.written sink.new)) }
+        ensures done { OnOk result (TakesTurn (λ refusal. HeardRefusal L.hears listener.old refusal listener.new) self.old self.new (W.device sink.old).bytes (W.device sink.new).bytes) }
+        ensures begun { IfErr result (TurnsPartly self.old (W.device sink.old).bytes (W.device sink.new).bytes) }
         ensures untold { OnErr result (listener.new ≡ listener.old) }
-        ensures no_failure { OnOk result (W.failures sink.new ≡ W.failures sink.old) }
-        ensures blamed { IsErrOf result WriteError.Device → W.failures sink.old < W.failures sink.new }
-        ensures not_blamed { IsErrOf result WriteError.NoMemory → W.failures sink.new ≡ W.failures sink.old }
+        ensures no_failure { OnOk result (Works (W.device sink.old) (W.device sink.new)) }
+        ensures blamed { IsErrOf result WriteError.Device → Fails (W.device sink.old) (W.device sink.new) }
+        ensures not_blamed { IsErrOf result WriteError.NoMemory → Works (W.device sink.old) (W.device sink.new) }
     {
         let Some(next) = self.number.checked_add(1) else {
             return Err(WriteError::NoMemory);
@@ -118,14 +115,13 @@ impl Feed {
         sink: &mut W,
         listener: &mut L,
     ) -> Result<(), WriteError>
-        requires { W.failures sink.old < 2 ^ 62 }
-        ensures done { OnOk result ((opened : model.Live) (text : Text) (first : Option Text) (start : L) → IsFed opened (λ refusals. L.hears start refusals listener.old) text first (W.written sink.old) self.old
-            → IsFed opened (λ refusals. L.hears start refusals listener.new) (text ++ bytes.now) first (W.written sink.new) self.new) }
-        ensures begun { IfErr result (λ error. (opened : model.Live) (text : Text) (first : Option Text) (start : L) → IsFed opened (λ refusals. L.hears start refusals listener.old) text first (W.written sink.old) self.old
-            → AnswersSome opened (λ refusals. L.hears start refusals listener.new) (MayBegin error) (text ++ bytes.now) first (W.written sink.new)) }
-        ensures no_failure { OnOk result (W.failures sink.new ≡ W.failures sink.old) }
-        ensures blamed { IsErrOf result WriteError.Device → W.failures sink.old < W.failures sink.new }
-        ensures not_blamed { IsErrOf result WriteError.NoMemory → W.failures sink.new ≡ W.failures sink.old }
+        ensures done { OnOk result ((opened : model.Live) (text : Text) (first : Option Text) (start : L) → IsFed opened (λ refusals. L.hears start refusals listener.old) text first (W.device sink.old).bytes self.old
+            → IsFed opened (λ refusals. L.hears start refusals listener.new) (text ++ bytes.now) first (W.device sink.new).bytes self.new) }
+        ensures begun { IfErr result (λ error. (opened : model.Live) (text : Text) (first : Option Text) (start : L) → IsFed opened (λ refusals. L.hears start refusals listener.old) text first (W.device sink.old).bytes self.old
+            → AnswersSome opened (λ refusals. L.hears start refusals listener.new) (MayBegin error) (text ++ bytes.now) first (W.device sink.new).bytes) }
+        ensures no_failure { OnOk result (Works (W.device sink.old) (W.device sink.new)) }
+        ensures blamed { IsErrOf result WriteError.Device → Fails (W.device sink.old) (W.device sink.new) }
+        ensures not_blamed { IsErrOf result WriteError.NoMemory → Works (W.device sink.old) (W.device sink.new) }
     {
         let mut rest = bytes;
         while let Some((piece, next)) = split_at_byte(rest, b'\n') {
@@ -147,15 +143,14 @@ impl Feed {
         sink: &mut W,
         listener: &mut L,
     ) -> Result<(), WriteError>
-        requires { W.failures sink.old < 2 ^ 62 }
-        ensures done { OnOk result (Appends (W.written sink.old) (W.written sink.new) (unended_text self.old.number self.old.begun.items)) }
-        ensures begun { IfErr result (WritesPrefix (unended_text self.old.number self.old.begun.items) (W.written sink.old) (W.written sink.new)) }
+        ensures done { OnOk result (Appends (W.device sink.old).bytes (W.device sink.new).bytes (unended_text self.old.number self.old.begun.items)) }
+        ensures begun { IfErr result (WritesPrefix (unended_text self.old.number self.old.begun.items) (W.device sink.old).bytes (W.device sink.new).bytes) }
         ensures told { OnOk result (HeardRefusal L.hears listener.old (unended_refusal self.old.number self.old.begun.items) listener.new) }
         ensures some { OnErr result (0 < length self.old.begun.items) }
         ensures untold { OnErr result (listener.new ≡ listener.old) }
-        ensures no_failure { OnOk result (W.failures sink.new ≡ W.failures sink.old) }
-        ensures blamed { IsErrOf result WriteError.Device → W.failures sink.old < W.failures sink.new }
-        ensures not_blamed { IsErrOf result WriteError.NoMemory → W.failures sink.new ≡ W.failures sink.old }
+        ensures no_failure { OnOk result (Works (W.device sink.old) (W.device sink.new)) }
+        ensures blamed { IsErrOf result WriteError.Device → Fails (W.device sink.old) (W.device sink.new) }
+        ensures not_blamed { IsErrOf result WriteError.NoMemory → Works (W.device sink.old) (W.device sink.new) }
     {
         if self.begun.is_empty() {
             return Ok(());
@@ -185,16 +180,14 @@ pub fn run_live<R: Threads, S: Source, W: Sink, L: Listener, G: CrewGate>(
     gate: &G,
 ) -> Result<(), ScriptFault>
     requires workers { (0 < workers) × (workers ≤ 64) }
-    requires source_count { S.failures source.old < 2 ^ 62 }
-    requires sink_count { W.failures sink.old < 2 ^ 62 }
-    ensures promise { live ≡ Waits → KeepsLivePromise (S.rest source.old) (S.rest source.new) (W.written sink.old) (W.written sink.new) result }
-    ensures answered { OnOk result (AnswersAll live (λ refusals. L.hears listener.old refusals listener.new) (S.rest source.old) (S.rest source.new) (W.written sink.old) (W.written sink.new)) }
-    ensures begun { IfErr result (AnswersFront live (λ refusals. L.hears listener.old refusals listener.new) (S.rest source.old) (S.rest source.new) (W.written sink.old) (W.written sink.new)) }
-    ensures prompt { IsErrOf result ScriptFault.Read → AnswersWhole live (λ refusals. L.hears listener.old refusals listener.new) (S.rest source.old) (S.rest source.new) (W.written sink.old) (W.written sink.new) }
+    ensures promise { live ≡ Waits → KeepsLivePromise (S.device source.old).bytes (S.device source.new).bytes (W.device sink.old).bytes (W.device sink.new).bytes result }
+    ensures answered { OnOk result (AnswersAll live (λ refusals. L.hears listener.old refusals listener.new) (S.device source.old).bytes (S.device source.new).bytes (W.device sink.old).bytes (W.device sink.new).bytes) }
+    ensures begun { IfErr result (AnswersFront live (λ refusals. L.hears listener.old refusals listener.new) (S.device source.old).bytes (S.device source.new).bytes (W.device sink.old).bytes (W.device sink.new).bytes) }
+    ensures prompt { IsErrOf result ScriptFault.Read → AnswersWhole live (λ refusals. L.hears listener.old refusals listener.new) (S.device source.old).bytes (S.device source.new).bytes (W.device sink.old).bytes (W.device sink.new).bytes }
 
     // Memory is taken only for bytes that the source gave.
-    ensures memory { IsErrOf result ScriptFault.NoMemory → ConsumesSome (S.rest source.old) (S.rest source.new) }
-    ensures blames { Blames (S.failures source.old) (S.failures source.new) (W.failures sink.old) (W.failures sink.new) result }
+    ensures memory { IsErrOf result ScriptFault.NoMemory → GivesSome (S.device source.old) (S.device source.new) }
+    ensures blames { Blames (S.device source.old) (S.device source.new) (W.device sink.old) (W.device sink.new) result }
 {
     replies_are_promised();
     let mut scanner = CrewScan::new(rt, alloc, workers, gate);

@@ -1,20 +1,19 @@
 //! A world: the heap that never collects, never moves and is never full, with how many commands it has done. It does the
 //! commands of sessions. Memory is refused only to a new object, and then it is as it was.
 ghost use Rattle.std.specs.Prelude.{◌≡◌, ◌≤◌, ◌↔◌, None, IfOk, IsTrue, OnErr, IsErrOf};
-ghost use Rattle.mh_model.specs.declared.reply.Reply.TheVariants.{Done};
-ghost use Rattle.mh_model.specs.Limits.{most_events};
+ghost use Rattle.mh_model.specs.{declared.reply.Reply.TheVariants.Done, Limits.most_events};
 ghost use Rattle.mh_model.specs.World.{IsNew, never_full, refusal, sight_of, world_step};
-ghost use Rattle.mh_script.specs.OfMachine.Stop.{Stop};
+ghost use Rattle.mh_machine.specs.declared.machine.Stop.{Stop};
 ghost use Rattle.mh_live.specs.Worlds.{first_grown};
 
 use mh_heap::perform::perform;
 use mh_heap::plain::PlainHeap;
+use mh_machine::machine::Stop;
 use mh_model::command::Command;
 use mh_model::config::Config;
 use mh_model::limits::MOST_EVENTS;
 use mh_model::memory::NoMemory;
 use mh_model::reply::Reply;
-use mh_script::mh_machine::machine::Stop;
 use std::alloc::Global;
 use std::marker::Model;
 
@@ -28,8 +27,7 @@ pub struct GrowingWorld {
 impl Model for GrowingWorld {
     ghost use Rattle.std.specs.Prelude.{◌≤◌};
     ghost use Rattle.mh_heap.specs.PlainHeap.{world_of};
-    ghost use Rattle.mh_model.specs.Limits.{most_events};
-    ghost use Rattle.mh_model.specs.World.{births};
+    ghost use Rattle.mh_model.specs.{Limits.most_events, World.births};
     ghost use Rattle.mh_live.specs.Worlds.{Grown};
 
     ghost Value = { Grown };

@@ -6,10 +6,6 @@
 //! never collects, moves or is full (`growing`).
 #![tactic(auto)]
 
-pub use mh_script;
-pub use mh_script::{mh_machine, mh_scan};
-pub use mh_text;
-
 mod answer;
 pub mod feed;
 pub mod growing;

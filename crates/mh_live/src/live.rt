@@ -8,24 +8,21 @@
 //! names were seen. So is a control in a world. A line is answered with out of memory only if it is a configuration, a
 //! command, a quantum or a dump; in a world only if its command makes a new object. That the event of a machine may ask
 //! for memory at all is said by private contracts alone (`MayAskForMemory` of `mh_machine`).
-ghost use Rattle.std.specs.Prelude.{◌≡◌, [], true, false, IfOk, OnOk};
-ghost use Rattle.std.specs.String.{string_bytes};
-ghost use Rattle.mh_model.specs.Script.{is_blank, line_of};
-ghost use Rattle.mh_live.specs.Answers.{IsOfRules, grows_of, runs_of};
-ghost use Rattle.mh_live.specs.Heard.{IsWhy, is_configured};
-ghost use Rattle.mh_model.specs.Live.{Waits, IsTurn};
+ghost use Rattle.std.specs.{Prelude.{◌≡◌, [], true, false, IfOk, OnOk}, String.string_bytes};
+ghost use Rattle.mh_model.specs.{Script.{is_blank, line_of}, Live.{Waits, IsTurn}};
+ghost use Rattle.mh_live.specs.{Answers.{IsOfRules, grows_of, runs_of}, Heard.{IsWhy, is_configured}};
 
 use crate::answer::{answer, answer_in_world, refused, starved, uncollected};
 use crate::growing::GrowingWorld;
-use crate::names::Names;
+use crate::names::SessionNames;
+use mh_machine::machine::Machine;
 use mh_model::command::Event;
 use mh_model::config::{Config, Rules};
 use mh_model::limits::LEAST_QUANTUM;
 use mh_model::memory::NoMemory;
-use mh_script::mh_machine::machine::Machine;
-use mh_script::mh_reasons::line::line_reason;
-use mh_script::mh_reasons::reason::LineReason;
-use mh_script::mh_scan::scan::Scanner;
+use mh_reasons::line::line_reason;
+use mh_reasons::reason::LineReason;
+use mh_scan::scan::Scanner;
 use mh_text::line::{Line, config_line, is_blank, line_of};
 use std::alloc::Global;
 use std::marker::Model;
@@ -34,7 +31,7 @@ use std::marker::Model;
 #[derive(Drop)]
 pub(crate) struct AttendedMachine {
     machine: Machine,
-    names: Names,
+    names: SessionNames,
 }
 
 impl AttendedMachine {
@@ -77,7 +74,7 @@ impl AttendedMachine {
 #[derive(Drop)]
 pub(crate) struct AttendedWorld {
     world: GrowingWorld,
-    names: Names,
+    names: SessionNames,
 }
 
 impl AttendedWorld {
@@ -156,7 +153,7 @@ impl Live {
             unreachable!();
         };
         let world = GrowingWorld::open(alloc, config);
-        let names = Names::new();
+        let names = SessionNames::new();
         Live {
             alloc,
             run: Attended::World(AttendedWorld { world, names }),
@@ -181,7 +178,7 @@ impl Live {
         };
         match Machine::open(self.alloc, config) {
             Ok(machine) => {
-                let names = Names::new();
+                let names = SessionNames::new();
                 self.run = Attended::Machine(AttendedMachine { machine, names });
                 Ok(None)
             }

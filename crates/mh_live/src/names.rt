@@ -2,8 +2,7 @@
 //! from a text: the bytes of a line are gone once it is answered. A name is looked up without being seen, since it is
 //! seen only once its event is done.
 ghost use Rattle.std.specs.Prelude.{◌≡◌, ◌≤◌, [], length, position};
-ghost use Rattle.mh_model.specs.Bytes.{is_text};
-ghost use Rattle.mh_model.specs.Script.{session_number, with_name};
+ghost use Rattle.mh_model.specs.{Bytes.is_text, Script.{session_number, with_name}};
 
 use arrayvec::ArrayVec;
 use mh_model::limits::SESSIONS;
@@ -15,11 +14,11 @@ const NAME_BYTES: usize = 16;
 
 /// The first names of sessions that were seen, eight at most. They take no memory.
 #[derive(Drop)]
-pub struct Names {
+pub struct SessionNames {
     seen: ArrayVec<ArrayVec<u8, NAME_BYTES>, SESSIONS>,
 }
 
-impl Model for Names {
+impl Model for SessionNames {
     ghost use Rattle.std.specs.Prelude.{List, ℕ, map};
 
     ghost Value = { List (List ℕ) };
@@ -34,12 +33,12 @@ fn place_in(seen: &[ArrayVec<u8, NAME_BYTES>], name: &[u8]) -> Option<usize>
     seen.iter().position(|seen| is_word(seen.as_slice(), name))
 }
 
-impl Names {
+impl SessionNames {
     /// No names, which is how a script begins.
-    pub fn new() -> Names
+    pub fn new() -> SessionNames
         ensures { result ≡ [] }
     {
-        Names {
+        SessionNames {
             seen: ArrayVec::new(),
         }
     }

@@ -1,12 +1,10 @@
 -- The lock of the model over the call of a seat that took the value at home.
 use Rattle.std.proofs.Common.{arith, ◌≡◌, ℕ, ◌<◌, ◌==◌, if◌then◌else◌, List, [], ◌∷◌, ◌++◌, length, get_or, set, Option, Some, None, option_map, Result, Ok, Err, IfOk, OnErr, Bool, refl, sym, ap, ◌∙◌, subst, length-set, get_or-set_same, eq-eqb, append-nil, ⊎_elim}
+use Rattle.std.proofs.{lemmas.List.get_or-set_other, lemmas.List.Elements.filter-append}
 use Rattle.std.specs.Option.{option_to_list}
-use Rattle.std.proofs.lemmas.List.{get_or-set_other}
-use Rattle.std.proofs.lemmas.List.Elements.{filter-append}
 use Rattle.mh_model.specs.History.{LockState, owned_by, with_take, with_give, IsAtHome, IsOut}
 use Rattle.mh_seat_laws.proofs.lock.TakesAndGives.{with_give-kept}
-use Rattle.mh_lock.specs.Seats.{LockView, LockSeatView, IsTakenAndGiven, entry_of_call}
-use Rattle.mh_lock.specs.Steps.{WasAtHome}
+use Rattle.mh_lock.specs.{Seats.{LockView, LockSeatView, IsTakenAndGiven, entry_of_call}, Steps.WasAtHome}
 
 -- what an answer leaves of a list that gets its entry, if it has one
 pub entries-answered : {R F E : Type 0} (before after : List E) (answer : Result R F) (entry : R → E) → IfOk answer (λ r. after ≡ before ++ entry r ∷ []) → OnErr answer (after ≡ before) → after ≡ before ++ option_to_list (entry_of_call entry answer)

@@ -8,11 +8,8 @@ use Rattle.mh_model.specs.History.{LockState, owned_by, IsAtHome, IsOut}
 use Rattle.mh_seat_laws.specs.Weights.{weigh_below, total}
 use Rattle.mh_seat_laws.specs.Lock.{Logs, weigh_numbers, StandIn, Fits, AllOwned, HasHome, HasHolder, IsLocked, Shows}
 use Rattle.mh_seat_laws.specs.declared.seat_view.SeatView.{SeatView}
-use Rattle.mh_seat_laws.proofs.TotalLemmas.{total-set}
-use Rattle.mh_seat_laws.proofs.lock.ShownLocks.{shown_lock}
-use Rattle.mh_lock.specs.Seats.{LockView, LockSeatView, IsKeptAtHome}
-use Rattle.mh_lock.specs.Steps.{seat_view}
-use Rattle.mh_seat_laws.proofs.lock.ShownLocks.{is}
+use Rattle.mh_seat_laws.proofs.{TotalLemmas.total-set, lock.ShownLocks.{shown_lock, is}}
+use Rattle.mh_lock.specs.{Seats.{LockView, LockSeatView, IsKeptAtHome}, Steps.seat_view}
 use Rattle.mh_lock.proofs.SeatNumbers.{two_parts-of_total, one-below, ones-below, ones-weigh_length, views-none}
 
 module _ {X E : Type 0} (seat_of : X → LockSeatView E) where

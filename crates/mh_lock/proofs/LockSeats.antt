@@ -1,12 +1,10 @@
 -- What a seat knows over a call, and what a closed lock says of its seats.
 use Rattle.std.proofs.Common.{arith, ◌≡◌, List, [], ◌∷◌, ◌++◌, ℕ, suc, ◌+◌, ◌<◌, length, get_or, drop, None, sym, refl, ap, ◌∙◌, subst}
+use Rattle.std.proofs.{lemmas.List.get_or_push, Math.ListN.get_or-append}
 use mathlib.Core.Logic.{dite}
 use native.Mathlib.Decide.{ℕ_discrete}
-use Rattle.std.proofs.lemmas.List.{get_or_push}
-use Rattle.std.proofs.Math.ListN.{get_or-append}
 use Rattle.atomic_table.specs.Table.{Me}
-use Rattle.mh_seat_laws.specs.declared.seat_view.Found.{Found}
-use Rattle.mh_seat_laws.specs.declared.seat_view.SeatView.{SeatView}
+use Rattle.mh_seat_laws.specs.declared.seat_view.{FoundValue.FoundValue, SeatView.SeatView}
 use Rattle.mh_lock.specs.Steps.{seat_view, empty_logs, holding, Grows, CanGive}
 
 -- New seats --------------------------------------------------------------------------------------
@@ -27,7 +25,7 @@ each-push P xs x n m many more all last j d below = dite (ℕ_discrete j n)
 -- Calls ------------------------------------------------------------------------------------------
 
 -- the value has changed with its seat, by what one call may add
-pub can_give-grown : {T E O : Type 0} (owner : E → ℕ) (entries : T → List E) (origin : T → O) (me : Me T (SeatView E O)) (number : ℕ) (log : List E) (found : Found E O) (value : T) → me ≡ holding number log found value
+pub can_give-grown : {T E O : Type 0} (owner : E → ℕ) (entries : T → List E) (origin : T → O) (me : Me T (SeatView E O)) (number : ℕ) (log : List E) (found : FoundValue E O) (value : T) → me ≡ holding number log found value
     → Grows owner number found.history (entries value) → origin value ≡ found.origin → CanGive owner entries origin me
 can_give-grown {T} {E} {O} owner entries origin me number log found value is grows same =
     subst (CanGive owner entries origin) (sym is) (record { found = found; value = value; holds = refl; entries_grow = grows; same_origin = same })

@@ -1,21 +1,19 @@
 -- Each step at the word of the lock keeps its rule.
 use Rattle.std.proofs.Common.{arith, ◌≡◌, ◌≢◌, inl, inr, ℕ, zero, suc, ◌<◌, cond, eqb, List, [], ◌∷◌, ◌++◌, length, get_or, set, take, drop, Some, None, sym, refl, ap, ◌∙◌, subst, length-set, get_or-set_same, eq-eqb, ne_eqb, append-nil, ⊎_elim, Result, Ok, Err, IfOk, OnErr, Bool, true, false}
+use Rattle.std.proofs.lemmas.List.Elements.{filter-append, All-nil, All-push}
 use mathlib.Core.Logic.{dite}
 use native.Mathlib.Decide.{ℕ_discrete}
 use mathlib.Core.Option.{none, some, some-injective, some-ne-none}
 use lib.ListN.{get_elem?}
 use prog.Atomic.{either}
-use Rattle.std.proofs.lemmas.List.Elements.{filter-append, All-nil, All-push}
 use Rattle.atomic_table.specs.Table.{State, step, keeps, takes, gives, opening, stepped, Allows, Splits, Joins}
 use Rattle.atomic_table.proofs.Lists.{at_set, at_snoc, set_again, set_here, set_else, at_longer}
 use Rattle.mh_model.specs.History.{LockState, owned_by, IsAtHome, IsOut}
 use Rattle.mh_seat_laws.specs.Lock.{Logs, weigh_numbers, Fits, AllFit, AllOwned, HasHome, HasHolder, IsLocked, Shows}
-use Rattle.mh_seat_laws.specs.declared.seat_view.Found.{Found}
-use Rattle.mh_seat_laws.specs.declared.seat_view.SeatView.{SeatView}
-use Rattle.mh_seat_laws.proofs.lock.ShownLocks.{shown_lock}
+use Rattle.mh_seat_laws.specs.{declared.seat_view.FoundValue.FoundValue, declared.seat_view.SeatView.SeatView}
+use Rattle.mh_seat_laws.proofs.lock.ShownLocks.{shown_lock, part-of_total, is, none_above}
 use Rattle.mh_seat_laws.proofs.TotalLemmas.{total-set, total-append_one}
 use Rattle.mh_lock.specs.Steps.{seat_view, empty_logs, all_seats, alone, holding, found_of, Grows, WasAtHome, Takes, Gives}
-use Rattle.mh_seat_laws.proofs.lock.ShownLocks.{part-of_total, is, none_above}
 use Rattle.mh_lock.proofs.SeatNumbers.{two_parts-of_total, is-same, at_most-one, weigh-append, weigh-cut, weigh-all}
 
 set-there : {A : Type 0} (l : List A) (i : ℕ) (v w : A) → get_elem? l i ≡ some v → get_elem? (set l i w) i ≡ some w
@@ -155,7 +153,7 @@ module _ {T E O : Type 0} (owner : E → ℕ) (entries : T → List E) (origin :
   -- Giving it back -------------------------------------------------------------------------------
 
   -- the seat that has the value gives it back
-  given : (table : State T (SeatView E O)) → Kept table → (id number : ℕ) (log : List E) (found : Found E O) (value : T) → get_elem? table.views id ≡ some (seat_view ((number, log) ∷ []) (Some found))
+  given : (table : State T (SeatView E O)) → Kept table → (id number : ℕ) (log : List E) (found : FoundValue E O) (value : T) → get_elem? table.views id ≡ some (seat_view ((number, log) ∷ []) (Some found))
       → Grows owner number found.history (entries value) → origin value ≡ found.origin → HasHolder owner entries origin about table
       → Kept (stepped table 0 0 id ((0, value) ∷ []) (seat_view ((number, owned_by owner number (entries value)) ∷ []) None) gives)
   given table rule id number log found value there grows same_origin out =
@@ -190,7 +188,7 @@ module _ {T E O : Type 0} (owner : E → ℕ) (entries : T → List E) (origin :
         };
       }
 
-  pub give-allowed : (slots id number : ℕ) (log : List E) (found : Found E O) (value : T) → Grows owner number found.history (entries value) → origin value ≡ found.origin
+  pub give-allowed : (slots id number : ℕ) (log : List E) (found : FoundValue E O) (value : T) → Grows owner number found.history (entries value) → origin value ≡ found.origin
       → Allows Kept slots id (holding number log found value) 0 (λ _. 0) (λ _. Gives owner entries origin (step slots 0 0 0 none) (holding number log found value) 0)
   give-allowed slots id number log found value grows same_origin table rule _ there _ = ⊎_elim
       (λ home. let none_found = home.nobody id (seat_view ((number, log) ∷ []) (Some found)) there in absurd cc)

@@ -3,8 +3,7 @@ use Rattle.std.proofs.Common.{arith, ◌≡◌, ◌≢◌, ℕ, zero, suc, ◌+�
 use Rattle.std.proofs.lemmas.Bool.Decides.{nat_tests}
 use mathlib.Core.Option.{some, some-injective, some-ne-none}
 use lib.ListN.{get_elem?}
-use Rattle.mh_seat_laws.specs.Weights.{weigh_below, total}
-use Rattle.mh_seat_laws.specs.Lock.{Logs, weigh_numbers}
+use Rattle.mh_seat_laws.specs.{Weights.{weigh_below, total}, Lock.{Logs, weigh_numbers}}
 use Rattle.mh_seat_laws.specs.declared.seat_view.SeatView.{SeatView}
 use Rattle.mh_seat_laws.proofs.lock.ShownLocks.{is, none_above, part-of_total}
 use Rattle.mh_lock.specs.Steps.{empty_logs}

@@ -2,8 +2,7 @@
 use Rattle.std.specs.Prelude.{◌≡◌, ◌≢◌, ℕ, zero, suc, ◌<◌, ◌⊎◌, List, [], ◌∷◌, ◌++◌, Option, Some, None, IfSome, get_or, length}
 use Rattle.atomic_table.specs.Table.{Me, Step}
 use Rattle.mh_model.specs.History.{LockState, owned_by, IsAtHome}
-use Rattle.mh_seat_laws.specs.Lock.{Logs, first}
-use Rattle.mh_seat_laws.specs.declared.seat_view.Found.{Found}
+use Rattle.mh_seat_laws.specs.{Lock.{Logs, first}, declared.seat_view.FoundValue.FoundValue}
 use Rattle.mh_seat_laws.specs.declared.seat_view.SeatView.{SeatView}
 
 -- so many logs without an entry, numbered from k on
@@ -13,7 +12,7 @@ empty_logs k (suc n) = (k, []) ∷ empty_logs (suc k) n
 
 module _ {E O : Type 0} where
   -- logs, and what was found of the value
-  abbrev pub seat_view : Logs E → Option (Found E O) → SeatView E O
+  abbrev pub seat_view : Logs E → Option (FoundValue E O) → SeatView E O
   seat_view logs found = record { logs = logs; found = found }
 
   -- what the first seat knows, which stands for all
@@ -33,7 +32,7 @@ module _ {T E O : Type 0} where
   alone number log = (seat_view ((number, log) ∷ []) None, [])
 
   -- such a seat, with the value, by what it found
-  abbrev pub holding : ℕ → List E → Found E O → T → Me T (SeatView E O)
+  abbrev pub holding : ℕ → List E → FoundValue E O → T → Me T (SeatView E O)
   holding number log found value = (seat_view ((number, log) ∷ []) (Some found), (0, value) ∷ [])
 
 -- a history stays, or has one entry more, which a seat owns
@@ -51,7 +50,7 @@ held_origin origin [] = None
 held_origin origin (slot ∷ slots) = Some (origin slot.1)
 
 -- what a seat that takes the value finds of it
-abbrev pub found_of : {T E O : Type 0} → (T → List E) → (T → O) → T → Found E O
+abbrev pub found_of : {T E O : Type 0} → (T → List E) → (T → O) → T → FoundValue E O
 found_of entries origin value = record { history = entries value; origin = origin value }
 
 -- a history was at home in a lock of the model with so many logs, among which a seat's stands at its number
@@ -79,7 +78,7 @@ module _ {T E O : Type 0} (owner : E → ℕ) (entries : T → List E) (origin :
 
   -- A seat has the value with the origin that it found, and with the entries that it found, or one more, which it owns
   pub record CanGive (seat : Me T (SeatView E O)) : Type 0 where
-    pub found : Found E O
+    pub found : FoundValue E O
     pub value : T
     pub holds : seat ≡ holding (number_in seat) (log_in seat) found value
     pub entries_grow : Grows owner (number_in seat) found.history (entries value)

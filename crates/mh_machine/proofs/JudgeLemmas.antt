@@ -1,11 +1,8 @@
 -- Histories that are judged entry by entry.
 use Rattle.std.proofs.Common.{◌≡◌, ◌∙◌, inl, inr, ℕ, suc, ◌+◌, ◌-◌, ◌<◌, ◌≤◌, true, false, Option, Some, None, IsSome, IsNone, List, [], ◌∷◌, ◌++◌, length, map, take, get_or, ap, sym, refl, subst, arith}
 use Rattle.std.proofs.lemmas.List.{length-append, length_push, take_all, take_at, take-append-le, take_more, map-append}
-use Rattle.mh_model.specs.declared.command.Event.{Event}
-use Rattle.mh_model.specs.declared.config.Config.{Config}
-use Rattle.mh_model.specs.History.{IsFirstBadOf}
-use Rattle.mh_model.specs.HistoryTexts.{IsJudged}
-use Rattle.mh_model.specs.Machine.{Machine, first_machine, event_step}
+use Rattle.mh_model.specs.{declared.command.Event.Event, declared.config.Config.Config, History.IsFirstBadOf}
+use Rattle.mh_model.specs.{HistoryTexts.IsJudged, Machine.{Machine, first_machine, event_step}}
 use Rattle.mh_run_laws.specs.Replays.{machine_at}
 use Rattle.mh_run_laws.proofs.runs.RunsByEvents.{after_more, no-events}
 use Rattle.mh_machine.specs.Running.{Running, first_running}

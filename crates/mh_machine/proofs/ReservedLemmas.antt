@@ -1,9 +1,6 @@
 -- Events for which there is room ask for no memory.
-use Rattle.std.proofs.Common.{◌≡◌, ◌+◌, ◌*◌, ◌≤◌, ℕ, false, arith}
-use Rattle.std.proofs.lemmas.Bool.{true≢false}
-use Rattle.mh_model.specs.declared.command.Control.TheVariants as control
-use Rattle.mh_model.specs.declared.command.Event.{Event}
-use Rattle.mh_model.specs.declared.command.Event.TheVariants as event
+use Rattle.std.proofs.{Common.{◌≡◌, ◌+◌, ◌*◌, ◌≤◌, ℕ, false, arith}, lemmas.Bool.true≢false}
+use Rattle.mh_model.specs.declared.command.{Event.Event, Control.Control}
 use Rattle.mh_machine.specs.Running.{Running, MayAskForMemory}
 use Rattle.mh_machine.specs.Reserved.{AtFirst, Done, Forgotten, ReservedEventsAskForNoMemory, Since, is_dump}
 
@@ -23,10 +20,10 @@ has-left enough whole (Forgotten count old new since forgets) =
 
 -- an event that isn't a dump asks for no memory where there is room for one
 room-enough : (room : ℕ) (event : Event) → 2 ≤ room → is_dump event ≡ false → ¬ MayAskForMemory room event
-room-enough room (event.Session who command) enough other asks = omega (arith, enough, asks)
-room-enough room (event.Control control.Quantum) enough other asks = omega (arith, enough, asks)
-room-enough room (event.Control control.Dump) enough other asks = true≢false other
-room-enough room (event.Control asked) enough other asks = asks
+room-enough room (Event.Session who command) enough other asks = omega (arith, enough, asks)
+room-enough room (Event.Control Control.Quantum) enough other asks = omega (arith, enough, asks)
+room-enough room (Event.Control Control.Dump) enough other asks = true≢false other
+room-enough room (Event.Control asked) enough other asks = asks
 
 pub reserved-none : ReservedEventsAskForNoMemory
 reserved-none room before first new count event reserves since few other =

@@ -1,21 +1,16 @@
 -- Machines that run: what their counts leave room for, and what an event leaves of them.
 use Rattle.std.proofs.Common.{◌≡◌, ℕ, suc, ◌+◌, ◌*◌, ◌<◌, ◌≤◌, [], ◌∷◌, ◌++◌, length, refl, sym, ap, ◌∙◌, subst, arith}
-use Rattle.std.proofs.Math.Nat.{mul-le-mul}
-use Rattle.std.proofs.lemmas.List.{length-append, length_push}
-use Rattle.mh_model.specs.declared.command.Event.{Event}
-use Rattle.mh_model.specs.declared.config.Config.{Config}
-use Rattle.mh_model.specs.declared.reply.Reply.{Reply}
-use Rattle.mh_model.specs.declared.report.Report.{Report}
-use Rattle.mh_model.specs.Limits.{most_events}
+use Rattle.std.proofs.{Math.Nat.mul-le-mul, lemmas.List.{length-append, length_push}}
+use Rattle.mh_model.specs.{declared.command.Event.Event, declared.config.Config.Config, declared.reply.Reply.Reply}
+use Rattle.mh_model.specs.{declared.report.Report.Report, Limits.most_events}
 use Rattle.mh_model.specs.Machine.{Machine, report_on, first_machine, half_step, event_step, machine_after}
 use Rattle.mh_model.specs.World.{says}
 use Rattle.mh_run_laws.specs.Bounds.{most_letters, IsWithinItsEvents, RunsStayWithinTheirEvents}
+use Rattle.mh_run_laws.specs.Forgetting.{KeepsPromise, Recalls, forgotten}
+use Rattle.mh_run_laws.specs.ForgettingLaws.{EventsKeepWhatIsRecalled, ForgottenTracesKeepTheirPromise}
 use Rattle.mh_run_laws.proofs.runs.RunsByEvents.{after_more}
 use Rattle.mh_laws.proofs.bounds.CyclesInTime.{run-stays}
-use Rattle.mh_trace_laws.specs.Forgetting.{KeepsPromise, Recalls, forgotten}
-use Rattle.mh_trace_laws.specs.Laws.{EventsKeepWhatIsRecalled, ForgottenTracesKeepTheirPromise}
-use Rattle.mh_machine.specs.Engines.{IsShort}
-use Rattle.mh_machine.specs.Running.{Running, IsRunning}
+use Rattle.mh_machine.specs.{Engines.IsShort, Running.{Running, IsRunning}}
 
 -- a machine within so many events, which are few, is short
 short-within : (count : ℕ) (machine : Machine) → most_letters machine.heap.config ≤ 1003661 → count ≤ 4398046511104 → IsWithinItsEvents count machine → IsShort machine

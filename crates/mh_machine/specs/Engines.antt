@@ -1,7 +1,6 @@
 -- Engines as the machines that they are, and how large their counts may be.
 use Rattle.std.specs.Prelude.{◌+◌, ◌<◌, length}
-use Rattle.mh_model.specs.declared.birth.TheConstants.{LIFE}
-use Rattle.mh_model.specs.Machine.{Machine}
+use Rattle.mh_model.specs.{declared.birth.TheConstants.LIFE, Machine.Machine}
 use Rattle.mh_machine.specs.declared.engine.Engine.{Engine}
 
 -- the machine that an engine is

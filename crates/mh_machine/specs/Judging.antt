@@ -1,18 +1,11 @@
 -- The judging of histories: when an entry is right, what a judge knows of the entries that were shown, and what a fault states.
 use Rattle.std.specs.Prelude.{◌≡◌, ◌⊎◌, ℕ, suc, Bool, true, false, ◌≤◌, ◌<◌, Option, Some, None, MatchOption, List, [], ◌∷◌, ◌++◌, length, map}
-use Rattle.mh_model.specs.declared.command.Event.{Event}
-use Rattle.mh_model.specs.declared.config.Config.{Config}
-use Rattle.mh_model.specs.declared.history.Entry.{Entry}
-use Rattle.mh_model.specs.declared.history.Measured.{Measured}
-use Rattle.mh_model.specs.declared.history.Verdict.{Verdict}
-use Rattle.mh_model.specs.declared.history.Verdict.TheVariants as verdict
-use Rattle.mh_model.specs.Limits.{most_entries}
-use Rattle.mh_model.specs.History.{IsLegal, IsFirstBadOf}
-use Rattle.mh_model.specs.HistoryTexts.{IsLegalRecord, measured_step}
+use Rattle.mh_model.specs.{declared.command.Event.Event, declared.config.Config.Config, declared.history.Entry.Entry}
+use Rattle.mh_model.specs.{declared.history.Measured.Measured, declared.history.Verdict.Verdict, Limits.most_entries}
+use Rattle.mh_model.specs.{History.{IsLegal, IsFirstBadOf}, HistoryTexts.{IsLegalRecord, measured_step}}
 use Rattle.mh_model.specs.Machine.{Machine, event_step}
 use Rattle.mh_run_laws.specs.Replays.{machine_at}
-use Rattle.mh_machine.specs.Running.{Running, first_running}
-use Rattle.mh_machine.specs.declared.judge.CheckFault.{CheckFault}
+use Rattle.mh_machine.specs.{Running.{Running, first_running}, declared.judge.CheckFault.CheckFault}
 use Rattle.mh_machine.specs.declared.judge.CheckFault.TheVariants.{FirstBad, NoMemory}
 
 -- an entry has the machine's reply to its event
@@ -58,8 +51,8 @@ HasSeen config event_of Lawful seen judging = MatchOption judging.first_bad (Has
 abbrev pub found_by : Judging → Verdict
 found_by judging = found judging.first_bad where
   found : Option ℕ → Verdict
-  found None = verdict.Legal judging.running.done
-  found (Some number) = verdict.FirstBad number
+  found None = Verdict.Legal judging.running.done
+  found (Some number) = Verdict.FirstBad number
 
 -- these entries were shown, and no others
 abbrev pub HasSeenEntries : Config → List Entry → Judging → Type 0

@@ -1,9 +1,6 @@
 -- Events for which there is room, and the memory that they don't ask for.
 use Rattle.std.specs.Prelude.{◌≡◌, ◌<◌, ℕ, suc, Bool, true, false}
-use Rattle.mh_model.specs.declared.command.Control.TheVariants as control
-use Rattle.mh_model.specs.declared.command.Event.{Event}
-use Rattle.mh_model.specs.declared.command.Event.TheVariants as event
-use Rattle.mh_model.specs.declared.reply.Reply.{Reply}
+use Rattle.mh_model.specs.declared.{command.Event.Event, reply.Reply.Reply, command.Control.Control}
 use Rattle.mh_machine.specs.Running.{Running, Does, Forgets, MayAskForMemory, Reserves}
 
 -- events were done and traces forgotten in turn, and so many events since the first of these moments or the last forgetting
@@ -14,7 +11,7 @@ pub data Since (first : Running) : ℕ → Running → Type 0 where
 
 -- the event asks for the table of blocks
 abbrev pub is_dump : Event → Bool
-is_dump (event.Control control.Dump) = true
+is_dump (Event.Control Control.Dump) = true
 is_dump _ = false
 
 -- Once there is room for some events, none of the next so many asks for memory, unless it is a dump; and so none of so many after each time that the trace is forgotten

@@ -1,14 +1,9 @@
 -- The rules of histories and of records: an entry more is lawful exactly if it is what the machine makes of its event.
 use Rattle.std.proofs.Common.{◌≡◌, ◌∙◌, ◌≤◌, lit≤, List, [], ◌∷◌, ◌++◌, map, ap, sym, refl}
 use Rattle.std.proofs.lemmas.List.{map-append, same_from_push}
-use Rattle.mh_model.specs.declared.command.Event.{Event}
-use Rattle.mh_model.specs.declared.config.Config.{Config}
-use Rattle.mh_model.specs.declared.history.Entry.{Entry}
-use Rattle.mh_model.specs.declared.history.Measured.{Measured}
-use Rattle.mh_model.specs.declared.reply.Reply.{Reply}
-use Rattle.mh_model.specs.History.{IsLegal}
-use Rattle.mh_model.specs.Limits.{most_entries}
-use Rattle.mh_model.specs.HistoryTexts.{IsLegalRecord, measured_step, machine_record}
+use Rattle.mh_model.specs.{declared.command.Event.Event, declared.config.Config.Config, declared.history.Entry.Entry}
+use Rattle.mh_model.specs.{declared.history.Measured.Measured, declared.reply.Reply.Reply, History.IsLegal}
+use Rattle.mh_model.specs.{Limits.most_entries, HistoryTexts.{IsLegalRecord, measured_step, machine_record}}
 use Rattle.mh_model.specs.Machine.{Machine, first_machine, event_step, machine_after, machine_replies}
 use Rattle.mh_run_laws.specs.Replays.{MachineRepliesMore, machine_at}
 use Rattle.mh_machine.specs.Judging.{HasItsReply, IsEventRule, IsMeasured}

@@ -1,14 +1,9 @@
 -- The machine that runs, with the number of events that it has done and the room of its trace.
 use Rattle.std.specs.Prelude.{◌≡◌, ◌≤◌, ◌<◌, ◌+◌, ◌*◌, ℕ, suc, List, length}
-use Rattle.mh_model.specs.declared.command.Control.TheVariants as control
-use Rattle.mh_model.specs.declared.command.Event.{Event}
-use Rattle.mh_model.specs.declared.command.Event.TheVariants as event
-use Rattle.mh_model.specs.declared.config.Config.{Config}
-use Rattle.mh_model.specs.declared.reply.Reply.{Reply}
-use Rattle.mh_model.specs.Limits.{most_events}
-use Rattle.mh_model.specs.World.{says}
-use Rattle.mh_model.specs.Machine.{Machine, first_machine, event_step, machine_after}
-use Rattle.mh_trace_laws.specs.Forgetting.{Recalls, forgotten}
+use Rattle.mh_model.specs.{declared.command.Event.Event, declared.config.Config.Config, declared.reply.Reply.Reply}
+use Rattle.mh_model.specs.{Limits.most_events, World.says, Machine.{Machine, first_machine, event_step, machine_after}}
+use Rattle.mh_model.specs.declared.command.Control.{Control}
+use Rattle.mh_run_laws.specs.Forgetting.{Recalls, forgotten}
 
 -- the machine, how many events it has done, and how many segments its trace has room for without asking for memory: more than it has, and in all
 pub record Running : Type 0 where
@@ -51,7 +46,7 @@ pub record IsRunning (config : Config) (running : Running) : Type 0 where
 
 -- An event may ask for memory: a dump for its items, and a command or a quantum for the trace, where that has no room for both their units
 abbrev pub MayAskForMemory : ℕ → Event → Type 0
-MayAskForMemory room (event.Session who command) = room < 2
-MayAskForMemory room (event.Control control.Quantum) = room < 2
-MayAskForMemory room (event.Control control.Dump) = Unit {0}
-MayAskForMemory room (event.Control _) = ⊥
+MayAskForMemory room (Event.Session who command) = room < 2
+MayAskForMemory room (Event.Control Control.Quantum) = room < 2
+MayAskForMemory room (Event.Control Control.Dump) = Unit {0}
+MayAskForMemory room (Event.Control _) = ⊥

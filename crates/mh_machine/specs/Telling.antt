@@ -1,10 +1,8 @@
 -- What an event tells while it is done.
 use Rattle.std.specs.Prelude.{◌≡◌, true, List, [], Option, None}
-use Rattle.mh_model.specs.declared.deed.Deed.{Deed}
+use Rattle.mh_model.specs.{declared.deed.Deed.Deed, Deeds.Ran}
+use Rattle.mh_deeds.specs.{Accounts.{account_in, empty_log, is_whole}, declared.account.Account.Account}
 use Rattle.mh_model.specs.Deeds as model
-use Rattle.mh_model.specs.Deeds.{Ran}
-use Rattle.mh_deeds.specs.Accounts.{account_in, empty_log, is_whole}
-use Rattle.mh_deeds.specs.declared.account.Account.{Account}
 
 -- a command was told, and no quantum
 abbrev pub command_alone : List Deed → model.Account

@@ -3,22 +3,19 @@
 //! An entry is right if it is what the machine makes of its event: its reply is the machine's, and if it states its
 //! units, they are those that the event added. That is all in which the versions differ for a judge.
 ghost use Rattle.std.specs.Prelude.{◌≡◌, List, IfOk, OnErr};
-ghost use Rattle.mh_model.specs.declared.command.Event.{Event};
-ghost use Rattle.mh_model.specs.declared.config.Config.{Config};
-ghost use Rattle.mh_model.specs.History.{IsLegal};
+ghost use Rattle.mh_model.specs.{declared.command.Event.Event, declared.config.Config.Config, History.IsLegal};
 ghost use Rattle.mh_model.specs.HistoryTexts.{IsLegalRecord};
-ghost use Rattle.mh_model.specs.Machine as model;
 ghost use Rattle.mh_run_laws.proofs.runs.RunsByEvents.{replies_more};
-ghost use Rattle.mh_machine.specs.Judging.{HasItsReply, IsEventRule, IsMeasured, IsTried};
-ghost use Rattle.mh_machine.specs.Running.{MayAskForMemory};
+ghost use Rattle.mh_machine.specs.{Judging.{HasItsReply, IsEventRule, IsMeasured, IsTried}, Running.MayAskForMemory};
 ghost use Rattle.mh_machine.specs.Rules.{legal_rule, record_rule};
+ghost use Rattle.mh_model.specs.Machine as model;
 
 use crate::machine::Machine;
 use crate::same::is_same;
 use mh_model::command::Event;
 use mh_model::history::{Entry, Measured};
 use mh_model::memory::NoMemory;
-use mh_paged::mh_scan::scan::OneScan;
+use mh_scan::scan::OneScan;
 
 /// An entry of the histories of some version.
 pub trait JudgedEntry {

@@ -1,21 +1,19 @@
 //! Who does what an event asks of the heap: a scanner alone, or an account that keeps each deed. The engine is written
 //! once over both, and each answers and leaves the same.
 ghost use Rattle.std.specs.Prelude.{◌≡◌, ◌<◌, Some};
-ghost use Rattle.mh_model.specs.declared.birth.TheConstants.{LIFE};
-ghost use Rattle.mh_model.specs.Deeds as model;
-ghost use Rattle.mh_model.specs.Deeds.{command_deeds, ran_by};
-ghost use Rattle.mh_paged.specs.Kept.{Steps};
-ghost use Rattle.mh_paged.specs.Lawful.{IsQuantum};
+ghost use Rattle.mh_model.specs.{declared.birth.TheConstants.LIFE, Deeds.{command_deeds, ran_by}};
+ghost use Rattle.mh_paged.specs.{Kept.Steps, Lawful.IsQuantum};
 ghost use Rattle.mh_machine.specs.Telling.{AddsRan, command_alone, nothing};
+ghost use Rattle.mh_model.specs.Deeds as model;
 
 use mh_deeds::account::Account;
+use mh_heap::heap::Heap;
 use mh_model::command::Command;
 use mh_model::cycle::Spent;
 use mh_model::deed::QuantumEnd;
 use mh_model::reply::Reply;
-use mh_paged::mh_heap::heap::Heap;
-use mh_paged::mh_scan::scan::{NoScan, Scanner};
 use mh_paged::paged::PagedHeap;
+use mh_scan::scan::{NoScan, Scanner};
 
 /// Performs commands and runs quanta on the heap of pages.
 pub(crate) trait Executor {
@@ -66,7 +64,7 @@ impl Executor for Account {
     }
 
     fn quantum(&mut self, heap: &mut PagedHeap) -> Spent {
-        let units = heap.quantum_told(&mut NoScan, &mut self.ran);
+        let units = heap.quantum_with_log(&mut NoScan, &mut self.ran);
         let phase = heap.phase();
         self.quantum = Some(QuantumEnd { units, phase });
         units

@@ -5,25 +5,22 @@
 //! judge that is shown the entries one by one, and keeps none, finds the same of those that it was shown.
 //!
 //! It doesn't keep what is wrong with the bad entry, since it would need the right reply beside each. `fault_in` of
-//! `mh_judging` finds that by a second replay up to the bad entry, so judging costs nothing more for a legal history.
+//! `mh_judge` finds that by a second replay up to the bad entry, so judging costs nothing more for a legal history.
 //! `check` and `audit` judge a history that lies in memory, for users of this crate: here tests alone call them. They
 //! open a machine before anything else, so no clause says when memory is refused to them.
 ghost use Rattle.std.specs.Prelude.{◌≡◌, [], ◌∷◌, ◌++◌, List, IsSome, IsOk, IfOk, IfErr, OnOk, OnErr};
-ghost use Rattle.mh_model.specs.declared.config.Config.{Config};
-ghost use Rattle.mh_model.specs.declared.history.Entry.{Entry};
-ghost use Rattle.mh_model.specs.declared.history.Measured.{Measured};
-ghost use Rattle.mh_model.specs.History.{IsLegal};
+ghost use Rattle.mh_model.specs.{declared.config.Config.Config, declared.history.Entry.Entry};
+ghost use Rattle.mh_model.specs.{declared.history.Measured.Measured, History.IsLegal};
 ghost use Rattle.mh_model.specs.HistoryTexts.{IsJudged, IsLegalRecord};
 ghost use Rattle.mh_machine.specs.Judging.{HasSeen, HasSeenEntries, HasSeenMeasured, NamesFirstBad, first_judging, found_by};
-ghost use Rattle.mh_machine.specs.Running.{MayAskForMemory};
-ghost use Rattle.mh_machine.specs.declared.judge.CheckFault.{CheckFault};
+ghost use Rattle.mh_machine.specs.{Running.MayAskForMemory, declared.judge.CheckFault.CheckFault};
 
 use crate::entry::JudgedEntry;
 use crate::machine::Machine;
 use mh_model::config::Config;
 use mh_model::history::{Entry, Measured, Verdict};
 use mh_model::memory::NoMemory;
-use mh_paged::mh_scan::scan::OneScan;
+use mh_scan::scan::OneScan;
 use std::alloc::Global;
 use std::marker::Model;
 use thiserror::Error;

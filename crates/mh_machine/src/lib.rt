@@ -5,10 +5,6 @@
 //! Nothing here knows the promise: `mh_state` cites it for whole runs, by the laws of machines that go on.
 #![tactic(auto)]
 
-pub use mh_paged;
-pub use mh_paged::mh_scan;
-pub use mh_report;
-
 mod engine;
 pub mod entry;
 mod executor;

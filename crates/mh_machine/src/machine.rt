@@ -20,13 +20,10 @@
 //! when it is dropped, and not the drop of each table at each of its ends. For the same reason loops over a machine are
 //! in functions that borrow it.
 ghost use Rattle.std.specs.Prelude.{◌≡◌, ◌<◌, ◌≤◌, ◌↔◌, Ok, IfOk, IsTrue, OnOk, OnErr, IsErrOf};
-ghost use Rattle.mh_model.specs.Limits.{most_entries, most_events};
-ghost use Rattle.mh_model.specs.Deeds.{account_of};
-ghost use Rattle.mh_model.specs.Machine.{report_on};
-ghost use Rattle.mh_trace_laws.specs.Forgetting.{KeepsPromise};
+ghost use Rattle.mh_model.specs.{Limits.{most_entries, most_events}, Deeds.account_of, Machine.report_on};
+ghost use Rattle.mh_run_laws.specs.Forgetting.{KeepsPromise};
 ghost use Rattle.mh_deeds.specs.Accounts.{empty_account, Tells};
-ghost use Rattle.mh_machine.specs.Running.{first_running, Does, Forgets, MayAskForMemory, Reserves};
-ghost use Rattle.mh_machine.specs.Telling.{nothing};
+ghost use Rattle.mh_machine.specs.{Running.{first_running, Does, Forgets, MayAskForMemory, Reserves}, Telling.nothing};
 ghost use Rattle.mh_machine.specs.declared.machine.Stop.{Stop};
 
 use crate::engine::Engine;
@@ -38,12 +35,12 @@ use mh_model::limits::{MOST_ENTRIES, MOST_EVENTS};
 use mh_model::memory::NoMemory;
 use mh_model::reply::Reply;
 use mh_model::report::Report;
-use mh_paged::mh_scan::scan::Scanner;
 use mh_paged::paged::PagedHeap;
 use mh_report::report::report;
 use mh_report::trace::Trace;
 use mh_run_laws::bounds::runs_stay_within_their_events;
-use mh_trace_laws::{events_keep_what_is_recalled, forgotten_traces_keep_their_promise};
+use mh_run_laws::forgetting::{events_keep_what_is_recalled, forgotten_traces_keep_their_promise};
+use mh_scan::scan::Scanner;
 use std::alloc::Global;
 use std::marker::Model;
 use thiserror::Error;
@@ -86,8 +83,7 @@ impl Drop for Machine {
 
 impl Model for Machine {
     ghost use Rattle.std.specs.Prelude.{◌≡◌};
-    ghost use Rattle.mh_machine.specs.Engines.{machine_of};
-    ghost use Rattle.mh_machine.specs.Running.{Running, IsRunning};
+    ghost use Rattle.mh_machine.specs.{Engines.machine_of, Running.{Running, IsRunning}};
 
     ghost Value = { Running };
 

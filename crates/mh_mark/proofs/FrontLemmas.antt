@@ -1,21 +1,14 @@
 -- The longest front taken off place by place, and the batch that it is marked as.
 use Rattle.std.proofs.Common.{◌≡◌, ℕ, zero, suc, ◌+◌, ◌-◌, ◌<◌, ◌≤◌, ◌==◌, ◌||◌, true, if◌then◌else◌, List, [], ◌∷◌, ◌++◌, length, get_or, slice_get, drop, Some, IsSome, refl, sym, ap, ◌∙◌, subst, arith, append_assoc, eq-eqb}
+use Rattle.std.proofs.{Math.Seq.drop-append_seam, lemmas.Bool.{le-leb, lt-leb, or_right}, lemmas.Bool.Decides.nat_tests}
+use Rattle.std.proofs.{lemmas.List.append-nil, lemmas.List.Sums.{sum_by-append, sum_by-cons}, lemmas.Option.same_Some}
 use Rattle.std.specs.List.{IsDistinct}
-use Rattle.std.proofs.Math.Seq.{drop-append_seam}
-use Rattle.std.proofs.lemmas.Bool.{le-leb, lt-leb, or_right}
-use Rattle.std.proofs.lemmas.Bool.Decides.{nat_tests}
-use Rattle.std.proofs.lemmas.List.{append-nil}
-use Rattle.std.proofs.lemmas.List.Sums.{sum_by-append, sum_by-cons}
-use Rattle.std.proofs.lemmas.Option.{same_Some}
-use Rattle.mh_model.specs.Pages.{Table, block_at}
-use Rattle.mh_model.specs.Table.{Block, references_at, found_in}
+use Rattle.mh_model.specs.{Pages.{Table, block_at}, Table.{Block, references_at, found_in}}
 use Rattle.mh_model.specs.Collector.{Marking, mark_cost}
 use Rattle.mh_model.specs.Batches.{longest_front, batch_cost, batch_written, batch_marked, NoneTwice}
 use Rattle.mh_table_laws.proofs.marking.BatchMarking.{none_twice-front, first_marked, mark_step-front, batch_written-first}
-use Rattle.mh_grey.specs.Queue.{Queue, is_in}
-use Rattle.mh_grey.specs.Shading.{marking}
-use Rattle.mh_mark.specs.Walkable.{IsWalkable}
-use Rattle.mh_mark.specs.Batched.{AreMarkable, blocks_marked, front_marked}
+use Rattle.mh_grey.specs.{Queue.{Queue, is_in}, Shading.marking}
+use Rattle.mh_mark.specs.{Walkable.IsWalkable, Batched.{AreMarkable, blocks_marked, front_marked}}
 
 front-more : (table : Table Block) (more left place : ℕ) (grey : List ℕ) → mark_cost table place ≤ left → longest_front (suc more) table left (place ∷ grey) ≡ place ∷ longest_front more table (left - mark_cost table place) grey
 unfolding longest_front

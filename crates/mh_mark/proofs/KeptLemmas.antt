@@ -1,24 +1,20 @@
 -- One reference written and shaded, and what that keeps.
 use Rattle.std.proofs.Common.{◌≡◌, ◌≢◌, ℕ, zero, suc, ◌+◌, ◌<◌, ◌≤◌, ◌==◌, ◌⊎◌, Bool, true, false, not, inl, inr, List, [], ◌∷◌, length, get_or, set, drop, Option, Some, None, option_map, unwrap_or, is_some, IsSome, refl, sym, ap, ◌∙◌, subst, arith, eq-eqb}
-use Rattle.std.specs.List.{list_all}
 use Rattle.std.proofs.lemmas.Bool.{cases_eq, false≢true, and_parts, eqb-true}
 use Rattle.std.proofs.lemmas.List.{get_or-set_other, get_or-set_same, length-set, drop_more, get_or-map}
+use Rattle.std.specs.List.{list_all}
 use Rattle.mh_model.specs.Pages.{Table, block_at}
 use Rattle.mh_model.specs.Table.{Block, resolve, references_at, reference_at, with_reference_at, target_of, stamp_at, forward_at, LeadsHome}
 use Rattle.mh_model.specs.Collector.{Marking, shade_block, shade_place, shade, mark_reference, mark_references}
-use Rattle.mh_table_laws.proofs.placing.Places.{block_at-with_block_other}
-use Rattle.mh_table_laws.proofs.marking.GreyList.{cycle-mark_references}
-use Rattle.mh_grey.specs.Queue.{is_in}
-use Rattle.mh_grey.specs.Shading.{marking, AreMarked}
-use Rattle.mh_grey.proofs.QueueLemmas.{in-push}
-use Rattle.mh_grey.proofs.ShadeLemmas.{shade-marked, shade-new}
+use Rattle.mh_table_laws.proofs.{placing.Places.block_at-with_block_other, marking.GreyList.cycle-mark_references}
+use Rattle.mh_table_laws.proofs.marking.BatchMarking.{leads_of}
+use Rattle.mh_grey.specs.{Queue.is_in, Shading.{marking, AreMarked}}
+use Rattle.mh_grey.proofs.{QueueLemmas.in-push, ShadeLemmas.{shade-marked, shade-new}}
 use Rattle.mh_grey.proofs.StampLemmas.{change-view, IsLike, like-trans, like-reference, home-like, IsShaded, shaded, place-stamped}
 use Rattle.mh_scan.specs.Scanning.{IsScannable, is_reached, is_settled, settled_in}
-use Rattle.mh_mark.specs.Batched.{IsMarkable, blocks_marked}
-use Rattle.mh_mark.specs.Walkable.{IsResolved}
+use Rattle.mh_mark.specs.{Batched.{IsMarkable, blocks_marked}, Walkable.IsResolved}
 use Rattle.mh_mark.specs.Kept.{IsReached, HasSettledReferences, KeepsMarking}
 use Rattle.mh_mark.proofs.MarkLemmas.{IsMarkingOn}
-use Rattle.mh_table_laws.proofs.marking.BatchMarking.{leads_of}
 use Rattle.mh_mark.proofs.ReferenceLemmas.{home-leads, at_home-leads, target-at_home, references_written, class-with_block, class-shaded, marked-written, write, write-home, marked-null, marked-straight}
 
 pub kept-refl : (m : Marking) → KeepsMarking m m

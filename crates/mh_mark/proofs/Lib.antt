@@ -3,4 +3,3 @@ pub mod MarkLemmas
 pub mod KeptLemmas
 pub mod FrontLemmas
 pub mod ToldLemmas
-pub mod OfGrey

@@ -1,17 +1,13 @@
 -- One reference of a block: where it leads, and what writing it back and shading it are.
 use Rattle.std.proofs.Common.{◌≡◌, ℕ, zero, suc, ◌+◌, ◌*◌, Bool, true, false, inl, inr, List, [], ◌∷◌, get_or, set, Option, Some, None, option_map, option_and_then, unwrap_or, is_some, IsSome, refl, sym, ap, ◌∙◌, subst}
-use Rattle.std.proofs.lemmas.Bool.{false≢true}
-use Rattle.std.proofs.lemmas.List.{set-get_or}
+use Rattle.std.proofs.{lemmas.Bool.false≢true, lemmas.List.set-get_or}
 use Rattle.mh_model.specs.Pages.{Table, page_number, slot_number, page_at, block_in, block_at, class_at, page_with, with_block}
 use Rattle.mh_model.specs.Table.{Block, resolve, target_of, references_at, reference_at, with_reference_at, forward_at, LeadsOn, LeadsHome}
 use Rattle.mh_model.specs.Collector.{Marking, shade_place, shade, mark_reference}
-use Rattle.mh_grey.specs.OfPages.Addresses.{address_in}
-use Rattle.mh_table_laws.proofs.marking.BatchMarking.{there_before}
-use Rattle.mh_table_laws.proofs.placing.Places.{block_at-with_block_there}
-use Rattle.mh_grey.specs.Queue.{is_in}
-use Rattle.mh_grey.specs.Shading.{IsApartAt, AreMarked}
-use Rattle.mh_grey.proofs.ShadeLemmas.{shade-cases}
-use Rattle.mh_grey.proofs.StampLemmas.{change-view, like-reference}
+use Rattle.mh_pages.specs.Addresses.{address_in}
+use Rattle.mh_table_laws.proofs.{marking.BatchMarking.there_before, placing.Places.block_at-with_block_there}
+use Rattle.mh_grey.specs.{Queue.is_in, Shading.{IsApartAt, AreMarked}}
+use Rattle.mh_grey.proofs.{ShadeLemmas.shade-cases, StampLemmas.{change-view, like-reference}}
 use Rattle.mh_mark.specs.Walkable.{IsResolved}
 
 -- Where references lead ------------------------------------------------------------------------------

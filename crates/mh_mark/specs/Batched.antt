@@ -1,8 +1,6 @@
 -- Marking by a batch.
 use Rattle.std.specs.Prelude.{ℕ, ◌<◌, IsSome, List, [], ◌∷◌, length, get_or, drop}
-use Rattle.mh_model.specs.Pages.{Table, block_at}
-use Rattle.mh_model.specs.Table.{Block, references_at}
-use Rattle.mh_model.specs.Collector.{Marking, mark_references}
+use Rattle.mh_model.specs.{Pages.{Table, block_at}, Table.{Block, references_at}, Collector.{Marking, mark_references}}
 use Rattle.mh_model.specs.Batches.{longest_front, batch_marked}
 use Rattle.mh_mark.specs.Walkable.{LeadHome}
 

@@ -1,8 +1,7 @@
 -- The first grey block.
 use Rattle.std.specs.Prelude.{◌≡◌, ℕ, ◌≤◌, Some, List, length, slice_get}
-use Rattle.mh_model.specs.Pages.{Table}
-use Rattle.mh_model.specs.Table.{Block, references_at}
-use Rattle.mh_grey.specs.OfPages.Addresses.{Address, address_in}
+use Rattle.mh_model.specs.{Pages.Table, Table.{Block, references_at}}
+use Rattle.mh_pages.specs.Addresses.{Address, address_in}
 
 -- where a block stands, and how many references it has
 pub record FirstGrey : Type 0 where

@@ -1,10 +1,8 @@
 -- What marking keeps.
 use Rattle.std.specs.Prelude.{◌≡◌, ◌⊎◌, ℕ, ◌<◌, true, Option, None, Some, IsSome, is_some, length}
-use Rattle.mh_model.specs.Pages.{block_at, class_at}
-use Rattle.mh_model.specs.Table.{references_at, reference_at, stamp_at, forward_at}
+use Rattle.mh_model.specs.{Pages.{block_at, class_at}, Table.{references_at, reference_at, stamp_at, forward_at}}
 use Rattle.mh_model.specs.Collector.{Marking}
-use Rattle.mh_grey.specs.Queue.{is_in}
-use Rattle.mh_grey.specs.Shading.{AreMarked}
+use Rattle.mh_grey.specs.{Queue.is_in, Shading.AreMarked}
 use Rattle.mh_mark.specs.Walkable.{LeadHome}
 
 -- a reference is null, or leads straight to a block that is marked, as `is_reached` says

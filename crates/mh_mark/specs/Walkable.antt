@@ -1,9 +1,7 @@
 -- What marking asks for.
 use Rattle.std.specs.Prelude.{◌≡◌, ℕ, ◌<◌, true, Option, Some, None, IsSome, List, length}
-use Rattle.mh_model.specs.Pages.{Table, block_at}
-use Rattle.mh_model.specs.Table.{Block, references_at, reference_at, forward_at, LeadsHome}
-use Rattle.mh_grey.specs.Queue.{is_in}
-use Rattle.mh_grey.specs.Shading.{AreMarked}
+use Rattle.mh_model.specs.{Pages.{Table, block_at}, Table.{Block, references_at, reference_at, forward_at, LeadsHome}}
+use Rattle.mh_grey.specs.{Queue.is_in, Shading.AreMarked}
 
 -- a reference is null, or the place of a block that is no forwarder
 abbrev pub IsResolved : Table Block → Option ℕ → Type 0

@@ -1,20 +1,17 @@
 //! Marking by a batch: the longest front of the grey list with at most 1,024 places that fits in what is left of the
 //! quantum. Table, grey list and cost are the model's, whatever the scanner answers.
 ghost use Rattle.std.specs.Prelude.{◌≡◌, ℕ, ◌≤◌, ◌++◌, [], true, IsSome, length};
-ghost use Rattle.mh_model.specs.Pages.{block_at};
-ghost use Rattle.mh_model.specs.Batches.{batch_cost, longest_front};
-ghost use Rattle.mh_grey.specs.Queue.{is_in};
-ghost use Rattle.mh_grey.specs.Shading.{marking, AreMarked};
+ghost use Rattle.mh_model.specs.{Pages.block_at, Batches.{batch_cost, longest_front}};
+ghost use Rattle.mh_grey.specs.{Queue.is_in, Shading.{marking, AreMarked}};
 ghost use Rattle.mh_scan.specs.Scanning.{settled_in};
-ghost use Rattle.mh_mark.specs.Kept.{KeepsMarking};
-ghost use Rattle.mh_mark.specs.Walkable.{IsWalkable};
+ghost use Rattle.mh_mark.specs.{Kept.KeepsMarking, Walkable.IsWalkable};
 ghost use Rattle.mh_mark.specs.Batched.{AreMarkable, blocks_marked, front_of, front_marked};
 
 use crate::mark::mark_block;
 use arrayvec::ArrayVec;
+use mh_blocks::blocks::Blocks;
 use mh_grey::grey::Grey;
 use mh_model::place::Place;
-use mh_scan::mh_blocks::blocks::Blocks;
 use mh_scan::scan::Scanner;
 
 /// Marks through the blocks of a batch, one after the other.

@@ -11,9 +11,5 @@
 //! law of batches. The crate knows no roots: their step is in `mh_cycle`.
 #![tactic(auto)]
 
-pub use mh_grey;
-pub use mh_scan;
-pub use mh_scan::mh_blocks;
-
 pub mod batch;
 pub mod mark;

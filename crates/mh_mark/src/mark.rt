@@ -1,25 +1,21 @@
 //! Marking through one block. Table, grey list and cost are the model's. The first grey block is found before its step,
 //! since its number of references says what the step costs.
 ghost use Rattle.std.specs.Prelude.{◌≡◌, ℕ, ◌<◌, true, false, IsSome, [], ◌∷◌, length};
-ghost use Rattle.mh_model.specs.declared.deed.Deed.TheVariants as deed;
-ghost use Rattle.mh_model.specs.Pages.{block_at};
-ghost use Rattle.mh_model.specs.Table.{references_at, reference_at, target_of, LeadsHome};
+ghost use Rattle.mh_model.specs.{Pages.block_at, Table.{references_at, reference_at, target_of, LeadsHome}};
 ghost use Rattle.mh_model.specs.Collector.{mark_reference, mark_references, mark_step};
 ghost use Rattle.mh_model.specs.Deeds.{name_at, edge_of, reference_deeds, mark_deeds};
 ghost use Rattle.mh_deeds.specs.Logs.{Told};
-ghost use Rattle.mh_grey.specs.OfPages.Addresses.{address_in};
-ghost use Rattle.mh_grey.specs.Queue.{is_in};
-ghost use Rattle.mh_grey.specs.Shading.{marking, AreMarked};
-ghost use Rattle.mh_mark.specs.First.{IsFirstGrey};
-ghost use Rattle.mh_mark.specs.Kept.{KeepsMarking};
-ghost use Rattle.mh_mark.specs.Walkable.{LeadHome, IsWalkable};
+ghost use Rattle.mh_pages.specs.Addresses.{address_in};
+ghost use Rattle.mh_grey.specs.{Queue.is_in, Shading.{marking, AreMarked}};
+ghost use Rattle.mh_mark.specs.{First.IsFirstGrey, Kept.KeepsMarking, Walkable.{LeadHome, IsWalkable}};
+ghost use Rattle.mh_model.specs.declared.deed.Deed.TheVariants as deed;
 
+use mh_blocks::blocks::Blocks;
 use mh_deeds::log::{Log, NoLog};
 use mh_grey::grey::Grey;
-use mh_grey::mh_pages::address::Address;
 use mh_model::deed::{Deed, Edge, PartName};
 use mh_model::place::Place;
-use mh_scan::mh_blocks::blocks::Blocks;
+use mh_pages::address::Address;
 use std::marker::Model;
 
 /// Where the first grey block stands, and how many references it has.

@@ -1,6 +1,5 @@
 -- Texts that are too long for a script, and those that are short enough for a history or a record.
-use Rattle.std.proofs.Common.{◌≡◌, ◌<◌, ◌≤◌, refl, true, nat_lt, cond, length, ap, arith}
-use Rattle.std.proofs.lemmas.Bool.{le-ltb}
+use Rattle.std.proofs.{Common.{◌≡◌, ◌<◌, ◌≤◌, refl, true, nat_lt, cond, length, ap, arith}, lemmas.Bool.le-ltb}
 use Rattle.std.proofs.lemmas.Bool.Decides.{nat_tests}
 use Rattle.mh_model.specs.Bytes.{Text, cut_after}
 use Rattle.mh_model.specs.HistoryTexts.{history_of, history_reading, recorded_of, recorded_reading}

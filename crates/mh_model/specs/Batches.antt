@@ -1,8 +1,7 @@
 -- Marking by batches: what a front of the grey list refers to is found at once, and then written back and shaded block by block.
 use Rattle.std.specs.Prelude.{ℕ, zero, suc, ◌-◌, ◌==◌, nat_le, if◌then◌else◌, Option, List, [], ◌∷◌}
 use Rattle.std.specs.List.{IsDistinct, sum_by}
-use Rattle.mh_model.specs.Pages.{Table}
-use Rattle.mh_model.specs.Table.{Block, with_reference_at, found_in}
+use Rattle.mh_model.specs.{Pages.Table, Table.{Block, with_reference_at, found_in}}
 use Rattle.mh_model.specs.Collector.{Collector, Marking, shade, mark_cost, marking_of, with_marking, after_mark}
 
 -- no place is in a list twice

@@ -1,7 +1,6 @@
 -- The collector: marking, sweep and defragmentation by steps with their costs, and the quantum, which takes such steps.
 use Rattle.std.specs.Prelude.{ℕ, zero, suc, ◌+◌, ◌-◌, ◌*◌, ◌==◌, nat_lt, nat_le, Bool, true, false, not, ◌&&◌, ◌||◌, if◌then◌else◌, Option, Some, None, is_some, option_map, option_and_then, List, [], ◌∷◌, ◌++◌, length, set, get_or, map, replicate}
-use Rattle.mh_model.specs.declared.config.Config.{Config}
-use Rattle.mh_model.specs.declared.cycle.Phase.{Phase}
+use Rattle.mh_model.specs.{declared.config.Config.Config, declared.cycle.Phase.Phase}
 use Rattle.mh_model.specs.declared.cycle.Phase.TheVariants.{Idle, Roots, Mark, Sweep, Defrag}
 use Rattle.mh_model.specs.Pages.{Page, Table, page_number, slot_number, page_at, block_in, block_at, live_in, free_pages, has_denser, least_dense_place, page_with, with_block, with_taken}
 use Rattle.mh_model.specs.Table.{Block, references_at, with_reference_at, is_forwarder, resolve, target_of}

@@ -2,15 +2,11 @@
 -- Nobody has to believe these words: every step keeps them, and the laws of bounds say what follows.
 use Rattle.std.specs.Prelude.{◌≡◌, ℕ, suc, ◌+◌, ◌-◌, ◌*◌, ◌<◌, ◌≤◌, true, if◌then◌else◌, length, Option, Some, None, option_map, unwrap_or, List, []}
 use Rattle.std.specs.List.{AllByRecursion, sum_by}
-use Rattle.mh_model.specs.declared.config.Config.{Config}
-use Rattle.mh_model.specs.declared.cycle.Phase.{Phase}
+use Rattle.mh_model.specs.{declared.config.Config.Config, declared.cycle.Phase.Phase}
 use Rattle.mh_model.specs.declared.cycle.Phase.TheVariants.{Idle, Roots, Mark, Sweep, Defrag}
 use Rattle.mh_model.specs.Pages.{Page, Table, page_number, slot_number, page_at, block_in, block_at}
-use Rattle.mh_model.specs.Table.{Block, references_at}
-use Rattle.mh_model.specs.Collector.{Collector, Marking, is_marked, marking_of, is_idle}
-use Rattle.mh_model.specs.Batches.{NoneTwice}
-use Rattle.mh_model.specs.Bound.{most_steps, most_units}
-use Rattle.mh_model.specs.Limits.{quantum_overhead, root_slots}
+use Rattle.mh_model.specs.{Table.{Block, references_at}, Collector.{Collector, Marking, is_marked, marking_of, is_idle}}
+use Rattle.mh_model.specs.{Batches.NoneTwice, Bound.{most_steps, most_units}, Limits.{quantum_overhead, root_slots}}
 
 -- What marking costs -----------------------------------------------------------------------------
 

@@ -1,12 +1,8 @@
 -- The forms of commands and controls: a word and the numbers after it. Scripts and histories share them.
 -- A table of forms gives, for each first word, what the words after it mean.
 use Rattle.std.specs.Prelude.{ℕ, ◌^◌, nat_lt, Bool, true, false, ◌&&◌, if◌then◌else◌, Option, Some, None, option_and_then, List, [], ◌∷◌, map, get_or, codes, decimal}
-use Rattle.mh_model.specs.declared.command.Command.{Command}
-use Rattle.mh_model.specs.declared.command.Command.TheVariants as command
-use Rattle.mh_model.specs.declared.command.Control.{Control}
-use Rattle.mh_model.specs.declared.command.Control.TheVariants as control
-use Rattle.mh_model.specs.declared.history.Version.{Version}
-use Rattle.mh_model.specs.declared.history.Version.TheVariants.{One, Two}
+use Rattle.mh_model.specs.{declared.command.Command.Command, declared.command.Control.Control}
+use Rattle.mh_model.specs.{declared.history.Version.Version, declared.history.Version.TheVariants.{One, Two}}
 use Rattle.mh_model.specs.Bytes.{Text, is_text, numbers}
 
 -- Forms ------------------------------------------------------------------------------------------
@@ -92,18 +88,18 @@ is_sayable said = are_below said.bounds said.numbers
 -- the twelve commands, as rows and as forms
 abbrev pub command_rows : List (Row Command)
 command_rows =
-    row (codes "new") (u32 ∷ u32 ∷ u32 ∷ []) (λ ns. command.New (at ns 0) (at ns 1) (at ns 2))
-    ∷ row (codes "get") (u32 ∷ u32 ∷ u32 ∷ []) (λ ns. command.Get (at ns 0) (at ns 1) (at ns 2))
-    ∷ row (codes "put") (u32 ∷ u32 ∷ u32 ∷ []) (λ ns. command.Put (at ns 0) (at ns 1) (at ns 2))
-    ∷ row (codes "copy") (u32 ∷ u32 ∷ []) (λ ns. command.Copy (at ns 0) (at ns 1))
-    ∷ row (codes "clear") (u32 ∷ []) (λ ns. command.Clear (at ns 0))
-    ∷ row (codes "read") (u32 ∷ u32 ∷ []) (λ ns. command.Read (at ns 0) (at ns 1))
-    ∷ row (codes "write") (u32 ∷ u32 ∷ u64 ∷ []) (λ ns. command.Write (at ns 0) (at ns 1) (at ns 2))
-    ∷ row (codes "same") (u32 ∷ u32 ∷ []) (λ ns. command.Same (at ns 0) (at ns 1))
-    ∷ row (codes "shape") (u32 ∷ []) (λ ns. command.Shape (at ns 0))
-    ∷ row (codes "post") (u32 ∷ u32 ∷ []) (λ ns. command.Post (at ns 0) (at ns 1))
-    ∷ row (codes "take") (u32 ∷ u32 ∷ []) (λ ns. command.Take (at ns 0) (at ns 1))
-    ∷ row (codes "end") [] (λ ns. command.End)
+    row (codes "new") (u32 ∷ u32 ∷ u32 ∷ []) (λ ns. Command.New (at ns 0) (at ns 1) (at ns 2))
+    ∷ row (codes "get") (u32 ∷ u32 ∷ u32 ∷ []) (λ ns. Command.Get (at ns 0) (at ns 1) (at ns 2))
+    ∷ row (codes "put") (u32 ∷ u32 ∷ u32 ∷ []) (λ ns. Command.Put (at ns 0) (at ns 1) (at ns 2))
+    ∷ row (codes "copy") (u32 ∷ u32 ∷ []) (λ ns. Command.Copy (at ns 0) (at ns 1))
+    ∷ row (codes "clear") (u32 ∷ []) (λ ns. Command.Clear (at ns 0))
+    ∷ row (codes "read") (u32 ∷ u32 ∷ []) (λ ns. Command.Read (at ns 0) (at ns 1))
+    ∷ row (codes "write") (u32 ∷ u32 ∷ u64 ∷ []) (λ ns. Command.Write (at ns 0) (at ns 1) (at ns 2))
+    ∷ row (codes "same") (u32 ∷ u32 ∷ []) (λ ns. Command.Same (at ns 0) (at ns 1))
+    ∷ row (codes "shape") (u32 ∷ []) (λ ns. Command.Shape (at ns 0))
+    ∷ row (codes "post") (u32 ∷ u32 ∷ []) (λ ns. Command.Post (at ns 0) (at ns 1))
+    ∷ row (codes "take") (u32 ∷ u32 ∷ []) (λ ns. Command.Take (at ns 0) (at ns 1))
+    ∷ row (codes "end") [] (λ ns. Command.End)
     ∷ []
 
 abbrev pub command_forms : List (Form Command)
@@ -111,18 +107,18 @@ command_forms = map row_form command_rows
 
 -- how a command is written
 abbrev pub command_phrase : Command → Phrase
-command_phrase (command.New slot references numbers) = phrase (codes "new") (u32 ∷ u32 ∷ u32 ∷ []) (slot ∷ references ∷ numbers ∷ [])
-command_phrase (command.Get slot source field) = phrase (codes "get") (u32 ∷ u32 ∷ u32 ∷ []) (slot ∷ source ∷ field ∷ [])
-command_phrase (command.Put slot field value) = phrase (codes "put") (u32 ∷ u32 ∷ u32 ∷ []) (slot ∷ field ∷ value ∷ [])
-command_phrase (command.Copy slot source) = phrase (codes "copy") (u32 ∷ u32 ∷ []) (slot ∷ source ∷ [])
-command_phrase (command.Clear slot) = phrase (codes "clear") (u32 ∷ []) (slot ∷ [])
-command_phrase (command.Read slot index) = phrase (codes "read") (u32 ∷ u32 ∷ []) (slot ∷ index ∷ [])
-command_phrase (command.Write slot index number) = phrase (codes "write") (u32 ∷ u32 ∷ u64 ∷ []) (slot ∷ index ∷ number ∷ [])
-command_phrase (command.Same left right) = phrase (codes "same") (u32 ∷ u32 ∷ []) (left ∷ right ∷ [])
-command_phrase (command.Shape slot) = phrase (codes "shape") (u32 ∷ []) (slot ∷ [])
-command_phrase (command.Post board slot) = phrase (codes "post") (u32 ∷ u32 ∷ []) (board ∷ slot ∷ [])
-command_phrase (command.Take slot board) = phrase (codes "take") (u32 ∷ u32 ∷ []) (slot ∷ board ∷ [])
-command_phrase command.End = phrase (codes "end") [] []
+command_phrase (Command.New slot references numbers) = phrase (codes "new") (u32 ∷ u32 ∷ u32 ∷ []) (slot ∷ references ∷ numbers ∷ [])
+command_phrase (Command.Get slot source field) = phrase (codes "get") (u32 ∷ u32 ∷ u32 ∷ []) (slot ∷ source ∷ field ∷ [])
+command_phrase (Command.Put slot field value) = phrase (codes "put") (u32 ∷ u32 ∷ u32 ∷ []) (slot ∷ field ∷ value ∷ [])
+command_phrase (Command.Copy slot source) = phrase (codes "copy") (u32 ∷ u32 ∷ []) (slot ∷ source ∷ [])
+command_phrase (Command.Clear slot) = phrase (codes "clear") (u32 ∷ []) (slot ∷ [])
+command_phrase (Command.Read slot index) = phrase (codes "read") (u32 ∷ u32 ∷ []) (slot ∷ index ∷ [])
+command_phrase (Command.Write slot index number) = phrase (codes "write") (u32 ∷ u32 ∷ u64 ∷ []) (slot ∷ index ∷ number ∷ [])
+command_phrase (Command.Same left right) = phrase (codes "same") (u32 ∷ u32 ∷ []) (left ∷ right ∷ [])
+command_phrase (Command.Shape slot) = phrase (codes "shape") (u32 ∷ []) (slot ∷ [])
+command_phrase (Command.Post board slot) = phrase (codes "post") (u32 ∷ u32 ∷ []) (board ∷ slot ∷ [])
+command_phrase (Command.Take slot board) = phrase (codes "take") (u32 ∷ u32 ∷ []) (slot ∷ board ∷ [])
+command_phrase Command.End = phrase (codes "end") [] []
 
 -- the command that words are the form of
 abbrev pub command_of : List Text → Option Command
@@ -138,24 +134,24 @@ where_known Two x = x ∷ []
 -- the controls, as rows and as forms, of which the first version of histories knows one less: `left`
 abbrev pub control_rows : Version → List (Row Control)
 control_rows version =
-    row (codes "quantum") [] (λ ns. control.Quantum)
-    ∷ row (codes "start") [] (λ ns. control.Start)
-    ∷ row (codes "stat") [] (λ ns. control.Stat)
-    ∷ row (codes "dump") [] (λ ns. control.Dump)
-    ∷ row (codes "report") (u64 ∷ []) (λ ns. control.Report (at ns 0))
-    ∷ where_known version (row (codes "left") [] (λ ns. control.Left))
+    row (codes "quantum") [] (λ ns. Control.Quantum)
+    ∷ row (codes "start") [] (λ ns. Control.Start)
+    ∷ row (codes "stat") [] (λ ns. Control.Stat)
+    ∷ row (codes "dump") [] (λ ns. Control.Dump)
+    ∷ row (codes "report") (u64 ∷ []) (λ ns. Control.Report (at ns 0))
+    ∷ where_known version (row (codes "left") [] (λ ns. Control.Left))
 
 abbrev pub control_forms : Version → List (Form Control)
 control_forms version = map row_form (control_rows version)
 
 -- how a control is written
 abbrev pub control_phrase : Control → Phrase
-control_phrase control.Quantum = phrase (codes "quantum") [] []
-control_phrase control.Start = phrase (codes "start") [] []
-control_phrase control.Stat = phrase (codes "stat") [] []
-control_phrase control.Dump = phrase (codes "dump") [] []
-control_phrase control.Left = phrase (codes "left") [] []
-control_phrase (control.Report window) = phrase (codes "report") (u64 ∷ []) (window ∷ [])
+control_phrase Control.Quantum = phrase (codes "quantum") [] []
+control_phrase Control.Start = phrase (codes "start") [] []
+control_phrase Control.Stat = phrase (codes "stat") [] []
+control_phrase Control.Dump = phrase (codes "dump") [] []
+control_phrase Control.Left = phrase (codes "left") [] []
+control_phrase (Control.Report window) = phrase (codes "report") (u64 ∷ []) (window ∷ [])
 
 -- the control that words are the form of, in a version
 abbrev pub control_of : Version → List Text → Option Control
@@ -163,5 +159,5 @@ control_of version words = formed (control_forms version) words
 
 -- a version knows a control: the first all but `Left`
 abbrev pub knows_control : Version → Control → Bool
-knows_control One control.Left = false
+knows_control One Control.Left = false
 knows_control _ _ = true

@@ -2,15 +2,10 @@
 -- An *interval* is the events between two quanta, with the event that has the second one run.
 use Rattle.std.specs.Prelude.{◌≡◌, ℕ, ◌<◌, nat_lt, false, Bool, not, ◌&&◌, ◌||◌, if◌then◌else◌, List, [], ◌∷◌, ◌++◌}
 use Rattle.std.specs.List.{AllByRecursion}
-use Rattle.mh_model.specs.declared.command.Event.{Event}
-use Rattle.mh_model.specs.declared.command.Event.TheVariants as event
-use Rattle.mh_model.specs.declared.config.Config.{Config}
-use Rattle.mh_model.specs.declared.reply.Reply.{Reply}
-use Rattle.mh_model.specs.World.{World, world_step}
-use Rattle.mh_model.specs.Collector.{Collector, is_idle}
+use Rattle.mh_model.specs.{declared.command.Event.Event, declared.config.Config.Config, declared.reply.Reply.Reply}
+use Rattle.mh_model.specs.{World.{World, world_step}, Collector.{Collector, is_idle}}
 use Rattle.mh_model.specs.Machine.{Machine, first_machine, half_step, event_step, machine_replies}
-use Rattle.mh_model.specs.Snapshot.{has_quantum, is_heap_full}
-use Rattle.mh_model.specs.Openings.{LeavesFlagged}
+use Rattle.mh_model.specs.{Snapshot.{has_quantum, is_heap_full}, Openings.LeavesFlagged}
 
 -- Runs -------------------------------------------------------------------------------------------
 
@@ -60,5 +55,5 @@ pub record IsNeverFull (config : Config) (events : List Event) : Type 0 where
 abbrev pub AnswerAsTheWorld : World → List Event → List Reply → Type 0
 AnswerAsTheWorld world [] answers = Unit {0}
 AnswerAsTheWorld world (event ∷ events) [] = ⊥
-AnswerAsTheWorld world (event.Session who command ∷ events) (answer ∷ answers) = (answer ≡ (world_step world who command).reply) × AnswerAsTheWorld (world_step world who command).state events answers
-AnswerAsTheWorld world (event.Control control ∷ events) (answer ∷ answers) = AnswerAsTheWorld world events answers
+AnswerAsTheWorld world (Event.Session who command ∷ events) (answer ∷ answers) = (answer ≡ (world_step world who command).reply) × AnswerAsTheWorld (world_step world who command).state events answers
+AnswerAsTheWorld world (Event.Control control ∷ events) (answer ∷ answers) = AnswerAsTheWorld world events answers

@@ -1,17 +1,11 @@
 -- What the lines of a script are answered one by one, as they come: by the machine of the configuration that they begin with, or by a world.
 use Rattle.std.specs.Prelude.{◌≡◌, ℕ, suc, nat_lt, Bool, true, false, not, ◌&&◌, if◌then◌else◌, is_some, is_none, Option, Some, None, List, [], ◌∷◌, ◌++◌, length, codes}
-use Rattle.mh_model.specs.declared.config.Config.{Config}
-use Rattle.mh_model.specs.declared.command.Command.{Command}
-use Rattle.mh_model.specs.declared.command.Command.TheVariants as command
-use Rattle.mh_model.specs.declared.command.Event.{Event}
-use Rattle.mh_model.specs.declared.command.Event.TheVariants as event
-use Rattle.mh_model.specs.declared.command.Control.TheVariants as control
-use Rattle.mh_model.specs.Bytes.{Text, cut_after, words, line_text}
-use Rattle.mh_model.specs.Limits.{most_events}
-use Rattle.mh_model.specs.Machine.{Machine, first_machine, event_step}
-use Rattle.mh_model.specs.Replies.{bad_line_text, reply_text}
+use Rattle.mh_model.specs.{declared.config.Config.Config, declared.command.Command.Command}
+use Rattle.mh_model.specs.{declared.command.Event.Event, Bytes.{Text, cut_after, words, line_text}, Limits.most_events}
+use Rattle.mh_model.specs.{Machine.{Machine, first_machine, event_step}, Replies.{bad_line_text, reply_text}}
 use Rattle.mh_model.specs.Script.{Line, Blank, Calls, Asks, Wrong, config_words, is_blank, line_of, session_number, with_name}
 use Rattle.mh_model.specs.World.{World, first_world, never_full, refusal, sight_of, world_step}
+use Rattle.mh_model.specs.declared.command.Control.{Control}
 
 -- where a run by lines stands between two of them. The configuration hasn't come; or there is a machine, with the first names seen and how many
 -- events it has answered; or there is a world, with the same
@@ -61,8 +55,8 @@ command_turn world names count seen who command =
 -- the turn of line n after the configuration, by what it says
 abbrev pub line_turn : ℕ → Machine → List Text → ℕ → Line → Turn
 line_turn n machine names count Blank = answers_nothing (Runs machine names count)
-line_turn n machine names count (Calls name command) = event_turn machine names count (with_name names name) (event.Session (session_number names name) command)
-line_turn n machine names count (Asks control) = event_turn machine names count names (event.Control control)
+line_turn n machine names count (Calls name command) = event_turn machine names count (with_name names name) (Event.Session (session_number names name) command)
+line_turn n machine names count (Asks control) = event_turn machine names count names (Event.Control control)
 line_turn n machine names count Wrong = answers_line (bad_line_text n) (Runs machine names count)
 
 -- the turn of line n in a world, by what it says: a control is refused, and changes nothing
@@ -83,13 +77,13 @@ turn n (Grows world names count) line = world_turn n world names count (line_of 
 -- a line with an event for which memory may be refused: a command and a quantum need it for the trace, a dump for its items
 abbrev pub needs_memory : Line → Bool
 needs_memory (Calls name command) = true
-needs_memory (Asks control.Quantum) = true
-needs_memory (Asks control.Dump) = true
+needs_memory (Asks Control.Quantum) = true
+needs_memory (Asks Control.Dump) = true
 needs_memory _ = false
 
 -- a line that makes a new object in a world
 abbrev pub makes_object : World → List Text → Line → Bool
-makes_object world names (Calls name (command.New slot references numbers)) = is_none (refusal (sight_of never_full world) (session_number names name) (command.New slot references numbers))
+makes_object world names (Calls name (Command.New slot references numbers)) = is_none (refusal (sight_of never_full world) (session_number names name) (Command.New slot references numbers))
 makes_object world names _ = false
 
 -- a line that makes a machine; whose event may need memory: a command, a quantum or a dump; or that makes a new object in a world

@@ -1,7 +1,6 @@
 -- Phases and flags by their numbers, as tables of numbers have them.
 use Rattle.std.specs.Prelude.{ℕ, Bool, true, false}
-use Rattle.mh_model.specs.declared.cycle.Phase.{Phase}
-use Rattle.mh_model.specs.declared.cycle.Phase.TheVariants.{Idle, Roots, Mark, Sweep, Defrag}
+use Rattle.mh_model.specs.declared.cycle.Phase.{Phase, TheVariants.{Idle, Roots, Mark, Sweep, Defrag}}
 
 -- the number of a phase, in the order of a cycle
 abbrev pub phase_number : Phase → ℕ

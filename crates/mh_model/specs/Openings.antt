@@ -1,15 +1,10 @@
 -- How many pages new objects may open while no quantum is run.
 use Rattle.std.specs.Prelude.{◌≡◌, ℕ, ◌+◌, ◌==◌, nat_lt, Bool, true, false, if◌then◌else◌, None, option_map, unwrap_or, List, []}
-use Rattle.std.specs.Int.{div_ceil}
-use Rattle.std.specs.List.{sum_by, count_by, flat_map}
-use Rattle.mh_model.specs.declared.command.Command.TheVariants as command
-use Rattle.mh_model.specs.declared.command.Event.{Event}
-use Rattle.mh_model.specs.declared.command.Event.TheVariants as event
-use Rattle.mh_model.specs.declared.config.Config.{Config}
-use Rattle.mh_model.specs.World.{most_fields}
+use Rattle.std.specs.{Int.div_ceil, List.{sum_by, count_by, flat_map}}
+use Rattle.mh_model.specs.{declared.command.Event.Event, declared.config.Config.Config, World.most_fields}
 use Rattle.mh_model.specs.Classes.{Part, class_sizes, class_of, slots_in, part_words, parts}
-use Rattle.mh_model.specs.Pages.{Table, page_number, block_at, flag_at, free_pages}
-use Rattle.mh_model.specs.Machine.{Machine}
+use Rattle.mh_model.specs.{Pages.{Table, page_number, block_at, flag_at, free_pages}, Machine.Machine}
+use Rattle.mh_model.specs.declared.command.Command.{Command}
 
 -- a part goes into pages of this class
 abbrev pub is_of_class : ℕ → Part → Bool
@@ -29,7 +24,7 @@ pages_of_parts list = sum_by (λ size. pages_for size (class_parts size list)) c
 
 -- the parts of the object that an event asks for, and none if it is too large for the rules. A refused object counts too
 abbrev pub asked_parts : Config → Event → List Part
-asked_parts config (event.Session who (command.New slot references numbers)) = if nat_lt (most_fields config) (references + numbers) then [] else parts references numbers
+asked_parts config (Event.Session who (Command.New slot references numbers)) = if nat_lt (most_fields config) (references + numbers) then [] else parts references numbers
 asked_parts config _ = []
 
 -- the most pages that a list of events opens if it runs no quantum

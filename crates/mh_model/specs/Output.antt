@@ -1,10 +1,7 @@
 -- What a run of a script writes, and how it ends.
 use Rattle.std.specs.Prelude.{ℕ, nat_lt, if◌then◌else◌, length, take}
-use Rattle.mh_model.specs.Bytes.{Text, line_text}
-use Rattle.mh_model.specs.Limits.{most_entries}
-use Rattle.mh_model.specs.Machine.{first_machine, machine_replies}
-use Rattle.mh_model.specs.Replies.{bad_line_text, replies_text}
-use Rattle.mh_model.specs.Script.{Meaning, Reading, BadLine, Means, reading}
+use Rattle.mh_model.specs.{Bytes.{Text, line_text}, Limits.most_entries, Machine.{first_machine, machine_replies}}
+use Rattle.mh_model.specs.{Replies.{bad_line_text, replies_text}, Script.{Meaning, Reading, BadLine, Means, reading}}
 
 -- what a run writes of a script that is read so
 abbrev pub output_of : Reading Meaning → Text

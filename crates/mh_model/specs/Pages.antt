@@ -2,8 +2,7 @@
 -- Blocks are seen here as values of any type, since only their places count. So a crate that knows of a block only its words cites the same
 -- definitions as one that knows all of it.
 use Rattle.std.specs.Prelude.{◌≡◌, ◌<◌, IsTrue, IsSome, ℕ, suc, ◌+◌, ◌/◌, ◌%◌, ◌==◌, Bool, true, false, not, ◌&&◌, if◌then◌else◌, Option, Some, None, option_map, option_and_then, unwrap_or, List, [], ◌∷◌, length, take, set, get_or, replicate}
-use Rattle.std.specs.List.{list_any}
-use Rattle.std.specs.Option.{option_or}
+use Rattle.std.specs.{List.list_any, Option.option_or}
 use Rattle.mh_model.specs.Classes.{is_class_size, slots_in}
 
 -- a page in use: the class of its blocks, known by its size; its flag; and its slots, each with a block or without

@@ -1,12 +1,8 @@
 -- Races: what the sessions of a script and its desk leave as their common history.
 -- Each makes its own calls in the script's order, and no order is given between them.
 use Rattle.std.specs.Prelude.{◌≡◌, ℕ, List, ◌++◌, length, map}
-use Rattle.mh_model.specs.declared.command.Event.{Event}
-use Rattle.mh_model.specs.declared.history.Measured.{Measured}
-use Rattle.mh_model.specs.Limits.{most_entries}
-use Rattle.mh_model.specs.History.{owner_of, owned_by}
-use Rattle.mh_model.specs.Bytes.{Text}
-use Rattle.mh_model.specs.Script.{Meaning}
+use Rattle.mh_model.specs.{declared.command.Event.Event, declared.history.Measured.Measured, Limits.most_entries}
+use Rattle.mh_model.specs.{History.{owner_of, owned_by}, Bytes.Text, Script.Meaning}
 use Rattle.mh_model.specs.HistoryTexts.{recorded_text, IsLegalRecord}
 
 -- the calls of a seat in a history, in order

@@ -1,15 +1,9 @@
 -- What a run of a script writes under given rules: its replies, or its history.
 use Rattle.std.specs.Prelude.{take, List}
-use Rattle.mh_model.specs.declared.command.Event.{Event}
-use Rattle.mh_model.specs.declared.config.Config.{Config}
-use Rattle.mh_model.specs.declared.config.Rules.{Rules}
-use Rattle.mh_model.specs.Bytes.{Text, line_text}
-use Rattle.mh_model.specs.Configs.{with_rules}
-use Rattle.mh_model.specs.HistoryTexts.{Recorded, machine_record, recorded_text}
-use Rattle.mh_model.specs.Limits.{most_entries}
-use Rattle.mh_model.specs.Machine.{first_machine}
-use Rattle.mh_model.specs.Output.{output_of}
-use Rattle.mh_model.specs.Replies.{bad_line_text}
+use Rattle.mh_model.specs.{declared.command.Event.Event, declared.config.Config.Config, declared.config.Rules.Rules}
+use Rattle.mh_model.specs.{Bytes.{Text, line_text}, Configs.with_rules}
+use Rattle.mh_model.specs.{HistoryTexts.{Recorded, machine_record, recorded_text}, Limits.most_entries}
+use Rattle.mh_model.specs.{Machine.first_machine, Output.output_of, Replies.bad_line_text}
 use Rattle.mh_model.specs.Script.{Meaning, Reading, BadLine, Means, reading, reading_map}
 
 -- a script under these rules

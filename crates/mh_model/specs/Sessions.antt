@@ -4,43 +4,33 @@
 -- refused all the same, if nothing before it is wrong: nobody knows what it was to be. By `IsChecked` and `IsAudited` such a text is refused.
 use Rattle.std.specs.Prelude.{◌≡◌, ◌≤◌, ◌⊎◌, ℕ, zero, suc, Bool, true, false, if◌then◌else◌, Option, Some, None, List, [], ◌∷◌, length, map, codes}
 use Rattle.std.specs.Option.{option_map_or}
-use Rattle.mh_model.specs.declared.command.Command.{Command}
-use Rattle.mh_model.specs.declared.command.Command.TheVariants as command
-use Rattle.mh_model.specs.declared.command.Event.{Event}
-use Rattle.mh_model.specs.declared.command.Event.TheVariants as event
-use Rattle.mh_model.specs.declared.config.Config.{Config}
-use Rattle.mh_model.specs.declared.config.Rules.{Rules}
-use Rattle.mh_model.specs.declared.config.Rules.TheVariants.{First}
-use Rattle.mh_model.specs.declared.history.Entry.{Entry}
+use Rattle.mh_model.specs.{declared.command.Command.Command, declared.command.Event.Event}
+use Rattle.mh_model.specs.{declared.config.Config.Config, declared.config.Rules.Rules}
+use Rattle.mh_model.specs.{declared.config.Rules.TheVariants.First, declared.history.Entry.Entry}
 use Rattle.mh_model.specs.declared.history.Verdict.{Verdict}
-use Rattle.mh_model.specs.declared.history.Verdict.TheVariants.{Refused, Legal, FirstBad}
-use Rattle.mh_model.specs.declared.reply.Reply.{Reply}
-use Rattle.mh_model.specs.declared.reply.Reply.TheVariants as reply
-use Rattle.mh_model.specs.Bytes.{Text, Cut, cut_after, is_text, lines_text, words}
-use Rattle.mh_model.specs.History.{IsFirstBadOf}
+use Rattle.mh_model.specs.{declared.history.Verdict.TheVariants.{Refused, Legal, FirstBad}, declared.reply.Reply.Reply}
+use Rattle.mh_model.specs.{Bytes.{Text, Cut, cut_after, is_text, lines_text, words}, History.IsFirstBadOf}
 use Rattle.mh_model.specs.HistoryTexts.{IsJudged, Recorded, header_of, history_reading, recorded_reading}
-use Rattle.mh_model.specs.Limits.{most_entries}
-use Rattle.mh_model.specs.Script.{Reading, BadLine, Means, reading_map}
-use Rattle.mh_model.specs.Snapshot.{is_heap_full, world_beside_event}
-use Rattle.mh_model.specs.World.{World, first_world, world_step}
+use Rattle.mh_model.specs.{Limits.most_entries, Script.{Reading, BadLine, Means, reading_map}}
+use Rattle.mh_model.specs.{Snapshot.{is_heap_full, world_beside_event}, World.{World, first_world, world_step}}
 
 -- What sessions see ------------------------------------------------------------------------------
 
 -- a new object that is answered `heap full`
 abbrev pub lacks_room : Command → Reply → Bool
-lacks_room (command.New slot references numbers) answer = is_heap_full answer
+lacks_room (Command.New slot references numbers) answer = is_heap_full answer
 lacks_room _ answer = false
 
 -- a new object may be answered that there is no room, if the ever-growing world makes it. What is refused for another reason is refused for that one.
 -- Our own heap is full only so, and the order of refusals is a rule that every heap can follow
 abbrev pub MayLackRoom : World → ℕ → Command → Reply → Type 0
-MayLackRoom world who command answer = (lacks_room command answer ≡ true) × ((world_step world who command).reply ≡ reply.Done)
+MayLackRoom world who command answer = (lacks_room command answer ≡ true) × ((world_step world who command).reply ≡ Reply.Done)
 
 -- what a correct collector may answer. To a session: what the ever-growing world does, or that there is no room for a new object that it makes. To a
 -- control: any reply of the grammar, so a history of another collector has the one form that all histories have
 abbrev pub IsSeen : World → Event → Reply → Type 0
-IsSeen world (event.Session who command) answer = (answer ≡ (world_step world who command).reply) ⊎ MayLackRoom world who command answer
-IsSeen world (event.Control control) answer = Unit {0}
+IsSeen world (Event.Session who command) answer = (answer ≡ (world_step world who command).reply) ⊎ MayLackRoom world who command answer
+IsSeen world (Event.Control control) answer = Unit {0}
 
 -- entries in turn that a correct collector may answer so, with the world beside them; a command that was answered by a full heap changes nothing in it
 abbrev pub AreSeen : World → List Entry → Type 0

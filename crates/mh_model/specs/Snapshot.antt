@@ -1,28 +1,22 @@
 -- Moments of a run: the machine beside the world of the same commands, and the snapshot of its cycle.
 use Rattle.std.specs.Prelude.{ℕ, ◌≤◌, ◌<◌, ◌==◌, ◌⊎◌, Bool, true, false, if◌then◌else◌, List, [], ◌∷◌}
-use Rattle.mh_model.specs.declared.command.Control.TheVariants as control
-use Rattle.mh_model.specs.declared.command.Event.{Event}
-use Rattle.mh_model.specs.declared.command.Event.TheVariants as event
-use Rattle.mh_model.specs.declared.config.Config.{Config}
-use Rattle.mh_model.specs.declared.reply.Reply.{Reply}
-use Rattle.mh_model.specs.declared.reply.Reply.TheVariants as reply
-use Rattle.mh_model.specs.declared.reply.Refusal.TheVariants.{HeapFull}
-use Rattle.mh_model.specs.World.{World, first_world, births, world_step}
-use Rattle.mh_model.specs.Paths.{Reachable}
-use Rattle.mh_model.specs.Collector.{is_start_due}
+use Rattle.mh_model.specs.{declared.command.Event.Event, declared.config.Config.Config, declared.reply.Reply.Reply}
+use Rattle.mh_model.specs.{declared.reply.Refusal.TheVariants.HeapFull, World.{World, first_world, births, world_step}}
+use Rattle.mh_model.specs.{Paths.Reachable, Collector.is_start_due}
 use Rattle.mh_model.specs.Machine.{Machine, first_machine, is_quantum_due, half_step, event_step}
+use Rattle.mh_model.specs.declared.command.Control.{Control}
 
 -- The world beside a machine ---------------------------------------------------------------------
 
 -- a reply is the refusal of a full heap
 abbrev pub is_heap_full : Reply → Bool
-is_heap_full (reply.Refused HeapFull) = true
+is_heap_full (Reply.Refused HeapFull) = true
 is_heap_full _ = false
 
 -- the world beside a machine, after an event with its reply: it takes the step of each command that wasn't answered by a full heap
 abbrev pub world_beside_event : World → Event → Reply → World
-world_beside_event world (event.Session who command) answer = if is_heap_full answer then world else (world_step world who command).state
-world_beside_event world (event.Control control) answer = world
+world_beside_event world (Event.Session who command) answer = if is_heap_full answer then world else (world_step world who command).state
+world_beside_event world (Event.Control control) answer = world
 
 -- the world beside a machine, after a list of events that were given these replies. It passes over events without a reply, so a list of replies may
 -- be shorter
@@ -46,9 +40,9 @@ first_moment config = record { machine = first_machine config; world = first_wor
 
 -- an event has a quantum run after its half step
 abbrev pub has_quantum : Machine → Event → Bool
-has_quantum machine (event.Session who command) = is_quantum_due (half_step machine (event.Session who command))
-has_quantum machine (event.Control control.Quantum) = machine.heap.config.every == 0
-has_quantum machine (event.Control _) = false
+has_quantum machine (Event.Session who command) = is_quantum_due (half_step machine (Event.Session who command))
+has_quantum machine (Event.Control Control.Quantum) = machine.heap.config.every == 0
+has_quantum machine (Event.Control _) = false
 
 -- the moment between a command and the quantum that it makes due; of a control the moment before it
 unfoldable pub half_moment : Moment → Event → Moment

@@ -38,8 +38,7 @@ pub struct Dump {
 }
 
 impl Model for Dump {
-    ghost use Rattle.std.specs.Prelude.{List};
-    ghost use Rattle.std.specs.Arc.{arc_value};
+    ghost use Rattle.std.specs.{Prelude.List, Arc.arc_value};
     ghost use Rattle.mh_model.specs.declared.dump.DumpItem.{DumpItem};
 
     ghost Value = { List DumpItem };

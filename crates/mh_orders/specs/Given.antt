@@ -1,9 +1,6 @@
 -- What is given of a configuration, within its limits.
 use Rattle.std.specs.Prelude.{ℕ, nat_le, Bool, true, ◌&&◌, Option, None, Some}
-use Rattle.mh_orders.specs.declared.generate_options.Controls.{Controls}
-use Rattle.mh_orders.specs.declared.generate_options.Controls.TheVariants as controls
-use Rattle.mh_orders.specs.declared.room_options.CycleLength.{CycleLength}
-use Rattle.mh_orders.specs.declared.room_options.CycleLength.TheVariants as cycles
+use Rattle.mh_orders.specs.declared.{generate_options.Controls.Controls, room_options.CycleLength.CycleLength}
 use Rattle.mh_orders.specs.declared.target_options.Given.{Given}
 use Rattle.mh_orders.specs.declared.target_options.Given.TheVariants.{Every, Nothing, Quantum}
 use Rattle.mh_model.specs.Limits.{least_quantum}
@@ -25,11 +22,11 @@ is_given_within (Quantum quantum) = is_between least_quantum 1000000 quantum
 
 -- the length that is given for cycles is within its limits
 abbrev pub is_length_within : CycleLength → Bool
-is_length_within (cycles.Quanta quanta) = is_between 1 1000000 quanta
-is_length_within (cycles.Quantum quantum) = is_between least_quantum 1000000 quantum
+is_length_within (CycleLength.Quanta quanta) = is_between 1 1000000 quanta
+is_length_within (CycleLength.Quantum quantum) = is_between least_quantum 1000000 quantum
 
 -- the number of events after which a script asks for a quantum is within its limits
 abbrev pub is_controls_within : Controls → Bool
-is_controls_within controls.ByChance = true
-is_controls_within (controls.Each events) = is_between 1 1000000 events
-is_controls_within controls.Never = true
+is_controls_within Controls.ByChance = true
+is_controls_within (Controls.Each events) = is_between 1 1000000 events
+is_controls_within Controls.Never = true

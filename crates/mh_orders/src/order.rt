@@ -12,7 +12,7 @@ use thiserror::Error;
 
 /// What a run of a script writes.
 #[derive(Clone, Copy, Debug, PartialEq, Eq)]
-pub enum Form {
+pub enum RunForm {
     /// The reply to each event.
     Replies,
     /// A history of version 2.
@@ -25,7 +25,7 @@ pub struct RunOptions {
     /// How many threads scan at a time at most.
     pub workers: usize,
     pub rules: Rules,
-    pub form: Form,
+    pub form: RunForm,
 }
 
 /// How the steps of a script are written.

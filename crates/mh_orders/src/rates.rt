@@ -1,8 +1,7 @@
 //! How fast mutators make blocks of each class. A rate bounds each stretch of the mutator's units, and is no average: in
 //! a stretch of t units at most `BURST + t * PARTS / UNITS` blocks are made, rounded up, and never more than t. Words count
 //! the header. The limits are part of the type.
-ghost use Rattle.std.specs.Prelude.{◌≤◌};
-ghost use Rattle.std.specs.List.{All};
+ghost use Rattle.std.specs.{Prelude.◌≤◌, List.All};
 
 /// How many blocks of each class are made at most, to how many units, and how many more at once.
 #[derive(Clone, Copy, Debug, PartialEq, Eq)]

@@ -5,7 +5,7 @@ ghost use Rattle.mh_orders.specs.Steps.{is_asked};
 
 /// How steps are written.
 #[derive(Clone, Copy, Debug, PartialEq, Eq)]
-pub enum Form {
+pub enum StepsForm {
     /// In words, below the entry of a history for each event.
     Text,
     /// One object of JSON a line.
@@ -15,7 +15,7 @@ pub enum Form {
 /// What the steps of a run show: their form, and the events, counted from 1, whose deeds stand below them.
 #[derive(Clone, Copy, Debug, PartialEq, Eq)]
 pub struct Steps {
-    pub form: Form,
+    pub form: StepsForm,
     /// The first event whose deeds are written.
     pub from: u32,
     /// The last one.

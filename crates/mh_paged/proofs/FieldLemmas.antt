@@ -1,14 +1,12 @@
 -- What a barrier leaves if it found it, and what holds if a field lies.
 use Rattle.std.proofs.Common.{◌≡◌, ℕ, Bool, true, false, if◌then◌else◌, [], Option, Some, None, option_map, unwrap_or, is_some, option_and_then, refl, ap, ◌∙◌, subst}
-use Rattle.mh_model.specs.Pages.{Table, block_at, with_block, Leads}
-use Rattle.mh_model.specs.declared.shape.Shape.{Shape}
+use Rattle.mh_model.specs.{Pages.{Table, block_at, with_block, Leads}, declared.shape.Shape.Shape}
 use Rattle.mh_model.specs.Table.{Block, Position, resolve, references_at, forward_at, position_of, reference_in}
 use Rattle.mh_model.specs.Collector.{Collector, Marking, is_marked, with_grey, shade_block, shade, marking_of, with_shade}
-use Rattle.mh_model.specs.Mutator.{in_roots_or_mark, before_field}
-use Rattle.mh_model.specs.Invariant.{HasField, IsSteady}
+use Rattle.mh_model.specs.{Mutator.{in_roots_or_mark, before_field}, Invariant.{HasField, IsSteady}}
 use Rattle.mh_laws.specs.Fields.{ReferencesLeadOn}
 use Rattle.mh_table_laws.proofs.marking.BatchMarking.{leads_of}
-use Rattle.mh_cycle.proofs.OfGrey.StampLemmas.{change-view}
+use Rattle.mh_grey.proofs.StampLemmas.{change-view}
 
 -- blocks are if they were, with the references that they had
 pub record StaysLaid (old new : Table Block) : Type 0 where

@@ -1,20 +1,13 @@
 -- A command leaves the heap kept and within its bounds, by the laws of commands.
 use Rattle.std.proofs.Common.{◌≡◌, ℕ, ◌+◌, ◌<◌, Bool, true, false, List, Some, None, replicate, sym, ap, subst}
 use Rattle.std.proofs.lemmas.Option.{none-some}
-use Rattle.mh_model.specs.declared.command.Command.{Command}
-use Rattle.mh_model.specs.declared.config.Config.{Config}
-use Rattle.mh_model.specs.declared.reply.Reply.{Reply}
-use Rattle.mh_model.specs.declared.shape.Shape.{Shape}
-use Rattle.mh_model.specs.World.{Answer}
-use Rattle.mh_model.specs.Table.{Made}
-use Rattle.mh_model.specs.Collector.{Collector, quantum}
-use Rattle.mh_model.specs.Mutator.{HeapState, new_group, with_root}
-use Rattle.mh_model.specs.CycleBounds.{IsInBounds}
+use Rattle.mh_model.specs.{declared.command.Command.Command, declared.config.Config.Config, declared.reply.Reply.Reply}
+use Rattle.mh_model.specs.{declared.shape.Shape.Shape, World.Answer, Table.Made, Collector.{Collector, quantum}}
+use Rattle.mh_model.specs.{Mutator.{HeapState, new_group, with_root}, CycleBounds.IsInBounds}
 use Rattle.mh_model.specs.Invariant.{HeapKeeps, IsKeeping, IsSteady, IsObjectAt, IsFindable, HasField}
 use Rattle.mh_laws.specs.Barriers.{RootsWrittenKeepTheSnapshot, ObjectsMadeKeepTheSnapshot}
 use Rattle.mh_laws.specs.Snapshots.{CollectorsStaySteady, CommandsKeepTheSnapshot, HeapsStayKept}
-use Rattle.mh_laws.specs.Bounds.{CollectorsStayInBounds}
-use Rattle.mh_laws.specs.Fields.{FieldsAreFound}
+use Rattle.mh_laws.specs.{Bounds.CollectorsStayInBounds, Fields.FieldsAreFound}
 use Rattle.mh_cycle.specs.State.{CycleState, state_with_collector, first_state}
 use Rattle.mh_paged.specs.Kept.{KeepsEachWorld, Steps, heap_of, IsHeap}
 

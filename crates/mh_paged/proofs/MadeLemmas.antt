@@ -1,18 +1,13 @@
 -- What making the parts of an object keeps.
 use Rattle.std.proofs.Common.{◌≡◌, ℕ, List, [], length, Some, Result, Ok, Err, IfOk, OnOk, OnErr, sym, ap, subst}
-use Rattle.mh_model.specs.declared.command.Command.TheVariants as command
-use Rattle.mh_model.specs.declared.config.Config.{Config}
-use Rattle.mh_model.specs.declared.reply.Refusal.{Refusal}
-use Rattle.mh_model.specs.Deeds.{Adds, DeedLog, make_deeds, new_deeds}
-use Rattle.mh_model.specs.Mutator.{HeapState}
+use Rattle.mh_model.specs.{declared.config.Config.Config, declared.reply.Refusal.Refusal}
+use Rattle.mh_model.specs.{Deeds.{Adds, DeedLog, make_deeds, new_deeds}, Mutator.HeapState, declared.cycle.Phase.Phase}
+use Rattle.mh_model.specs.{Classes.{Part, parts}, Pages.Table, Table.{Block, made_group}}
+use Rattle.mh_model.specs.declared.command.Command.{Command}
 use Rattle.mh_deeds.specs.Logs.{Has, Told}
 use Rattle.mh_deeds.proofs.LogLemmas.{adds-none, told-adds}
 use Rattle.mh_heap.specs.Outcome.{done_or}
-use Rattle.mh_model.specs.declared.cycle.Phase.{Phase}
-use Rattle.mh_model.specs.Classes.{Part, parts}
-use Rattle.mh_model.specs.Pages.{Table}
-use Rattle.mh_model.specs.Table.{Block, made_group}
-use Rattle.mh_cycle.specs.OfGrey.Queue.{Queue}
+use Rattle.mh_grey.specs.Queue.{Queue}
 use Rattle.mh_laws.specs.Tables.{MakingKeepsThePages}
 use Rattle.mh_cycle.specs.State.{IsFramed}
 use Rattle.mh_cycle.proofs.FrameLemmas.{framed-long}
@@ -26,6 +21,6 @@ framed-made law config old new phase cursor grey birth stamp references numbers 
 
 -- what a new object tells: its parts, or nothing if it is refused
 pub new-tells : (heap : HeapState) (slot references numbers : ℕ) (old new : DeedLog) (outcome : Result (Unit {0}) Refusal) → OnOk outcome (Told Has old (make_deeds heap.collector.table heap.next_birth heap.collector.cycle 0 (parts references numbers)) new) → OnErr outcome (new ≡ old)
-    → Adds old (new_deeds heap (command.New slot references numbers) (done_or outcome)) new
+    → Adds old (new_deeds heap (Command.New slot references numbers) (done_or outcome)) new
 new-tells heap slot references numbers old new (Ok done) told quiet = told-adds old new _ told
 new-tells heap slot references numbers old new (Err refusal) told quiet = subst (λ log. Adds old [] log) (sym quiet) (adds-none old)

@@ -1,15 +1,11 @@
 -- The steps of a new object and of a session's end, from what their tests let through. `search` finds those of the other commands.
 use Rattle.std.proofs.Common.{◌≡◌, ℕ, ◌+◌, ◌*◌, Bool, true, false, Some, List, [], ◌∷◌, Ok, get_or, set, nat_le, nat_lt, refl, sym, ap, ◌∙◌, subst, arith}
 use Rattle.std.proofs.lemmas.Grind.{common_steps}
-use Rattle.mh_model.specs.declared.command.Command.TheVariants as command
-use Rattle.mh_model.specs.declared.config.Config.{Config}
-use Rattle.mh_model.specs.declared.reply.Reply.TheVariants as reply
-use Rattle.mh_model.specs.declared.reply.Refusal.{Refusal}
+use Rattle.mh_model.specs.{declared.config.Config.Config, declared.reply.Refusal.Refusal}
 use Rattle.mh_model.specs.declared.reply.Refusal.TheVariants.{BadSlot, Ended, TooLarge, TooManySessions}
-use Rattle.mh_model.specs.World.{done, is_bad, most_fields, own_slot}
-use Rattle.mh_model.specs.Classes.{Part, parts}
-use Rattle.mh_model.specs.Table.{Made, made_group}
+use Rattle.mh_model.specs.{World.{done, is_bad, most_fields, own_slot}, Classes.{Part, parts}, Table.{Made, made_group}}
 use Rattle.mh_model.specs.Mutator.{HeapState, new_group, with_root, with_roots_cleared}
+use Rattle.mh_model.specs.{declared.command.Command.Command, declared.reply.Reply.Reply}
 use Rattle.mh_laws.specs.Commands.{CommandsAreAnswered}
 use Rattle.mh_cycle.specs.State.{CycleState, state_with_collector}
 use Rattle.mh_heap.specs.Checks.{tested}
@@ -43,7 +39,7 @@ module _ (cycle : CycleState) (birth : ℕ) (ended : List Bool) where
         → Ok all ≡ tested ((nat_lt (most_fields config) (references + numbers), TooLarge) ∷ []) (parts references numbers)
         → made_group cycle.collector.table birth cycle.collector.cycle all ≡ Some (record { place = place; table = made.collector.table })
         → made ≡ state_with_collector cycle (record (cycle.collector) { table = made.collector.table }) → new ≡ state_with_collector made (with_root made.collector root (Some place))
-        → Steps (heap_of cycle birth ended) who (command.New slot references numbers) reply.Done (heap_of new (birth + 1) ended)
+        → Steps (heap_of cycle birth ended) who (Command.New slot references numbers) Reply.Done (heap_of new (birth + 1) ended)
     born-steps config slot references numbers root place all made new config_is in_slot in_all is table written =
         let to = is-passed _ _ _ _ in_slot in
         let small = rw config_is at (is-passed _ _ _ _ in_all).passed in
@@ -52,7 +48,7 @@ module _ (cycle : CycleState) (birth : ℕ) (ended : List Bool) where
     abbrev ended_at : ℕ → ℕ → HeapState
     ended_at first session = record (heap_of cycle birth ended) { collector = with_roots_cleared cycle.collector first 16; ended = set ended session true }
 
-    pub end-steps : (new : CycleState) → new ≡ state_with_collector cycle (with_roots_cleared cycle.collector (session * 16) 16) → Steps (heap_of cycle birth ended) who command.End reply.Done (heap_of new birth (set ended session true))
+    pub end-steps : (new : CycleState) → new ≡ state_with_collector cycle (with_roots_cleared cycle.collector (session * 16) 16) → Steps (heap_of cycle birth ended) who Command.End Reply.Done (heap_of new birth (set ended session true))
     end-steps new cleared =
         let first : own_slot who 0 ≡ session * 16 = omega (arith, same) in
         rw cleared (law.ended (heap_of cycle birth ended) who (rw (few, runs) refl) ∙ ap (λ n. done (ended_at n who)) first ∙ ap (λ n. done (ended_at (session * 16) n)) (sym same))

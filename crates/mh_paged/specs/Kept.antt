@@ -1,13 +1,8 @@
 -- What a call that performs a command on the pages answers and leaves, and what holds of a heap at each moment.
 use Rattle.std.specs.Prelude.{◌≡◌, ℕ, Bool, true, List}
-use Rattle.mh_model.specs.declared.command.Command.{Command}
-use Rattle.mh_model.specs.declared.reply.Reply.{Reply}
-use Rattle.mh_model.specs.declared.cycle.Phase.TheVariants.{Idle}
-use Rattle.mh_model.specs.World.{World, says}
-use Rattle.mh_model.specs.Collector.{is_start_due}
-use Rattle.mh_model.specs.Mutator.{HeapState, mutator_step}
-use Rattle.mh_model.specs.CycleBounds.{IsInBounds}
-use Rattle.mh_model.specs.View.{heap_view}
+use Rattle.mh_model.specs.{declared.command.Command.Command, declared.reply.Reply.Reply}
+use Rattle.mh_model.specs.{declared.cycle.Phase.TheVariants.Idle, World.{World, says}, Collector.is_start_due}
+use Rattle.mh_model.specs.{Mutator.{HeapState, mutator_step}, CycleBounds.IsInBounds, View.heap_view}
 use Rattle.mh_model.specs.Invariant.{Continues, HeapKeeps, IsKeeping}
 use Rattle.mh_cycle.specs.State.{CycleState}
 

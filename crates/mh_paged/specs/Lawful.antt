@@ -1,11 +1,7 @@
 -- What the laws tell of a heap of pages at each moment, in equations and orders alone, and what a quantum does.
 use Rattle.std.specs.Prelude.{◌≡◌, ℕ, ◌+◌, ◌≤◌}
-use Rattle.mh_model.specs.declared.command.Command.{Command}
-use Rattle.mh_model.specs.World.{IsClosed, births}
-use Rattle.mh_model.specs.Paths.{Agrees}
-use Rattle.mh_model.specs.Collector.{quantum}
-use Rattle.mh_model.specs.Mutator.{HeapState, mutator_step}
-use Rattle.mh_model.specs.View.{heap_view}
+use Rattle.mh_model.specs.{declared.command.Command.Command, World.{IsClosed, births}, Paths.Agrees, Collector.quantum}
+use Rattle.mh_model.specs.{Mutator.{HeapState, mutator_step}, View.heap_view}
 use Rattle.mh_laws.specs.Forwarders.{MakesItsForwarders}
 use Rattle.mh_run_laws.specs.Following.{Follows, has_no_place}
 use Rattle.mh_cycle.specs.Snapshots.{ContinuesEach}

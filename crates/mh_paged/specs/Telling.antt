@@ -1,14 +1,10 @@
 -- From the machine's step to what is shown.
 use Rattle.std.proofs.Common.{◌≡◌, ℕ, ◌≤◌, refl, sym, ap, ◌∙◌, subst}
-use Rattle.mh_model.specs.declared.command.Command.{Command}
-use Rattle.mh_model.specs.declared.reply.Reply.{Reply}
-use Rattle.mh_model.specs.World.{Answer, says, heap_step}
-use Rattle.mh_model.specs.Mutator.{HeapState}
-use Rattle.mh_model.specs.View.{heap_view}
+use Rattle.mh_model.specs.{declared.command.Command.Command, declared.reply.Reply.Reply}
+use Rattle.mh_model.specs.{World.{Answer, says, heap_step}, Mutator.HeapState, View.heap_view}
 use Rattle.mh_run_laws.specs.Following.{has_no_place}
 use Rattle.mh_heap.specs.Shown.{ShowsCommand, ShowsQuantum}
-use Rattle.mh_paged.specs.Kept.{Steps}
-use Rattle.mh_paged.specs.Lawful.{IsLawful, IsQuantum, showing}
+use Rattle.mh_paged.specs.{Kept.Steps, Lawful.{IsLawful, IsQuantum, showing}}
 
 -- a command of the machine shows what it should
 pub commands_shown : (old new : HeapState) → IsLawful old → (who : ℕ) (command : Command) (reply : Reply) → Steps old who command reply new → ShowsCommand (showing old) who command reply (showing new)

@@ -2,16 +2,13 @@
 //! barriers and refusals. The heap is full exactly when some part of the object has no place. The nine that write keep
 //! each world that is taken as the snapshot of the running cycle (`keeps`); the other three only read the heap.
 ghost use Rattle.std.specs.Prelude.{◌≡◌, ◌<◌, OnOk, OnErr};
-ghost use Rattle.mh_model.specs.declared.birth.TheConstants.{LIFE};
-ghost use Rattle.mh_model.specs.declared.command.Command.TheVariants as command;
-ghost use Rattle.mh_model.specs.Classes.{parts};
-ghost use Rattle.mh_model.specs.Deeds.{make_deeds};
+ghost use Rattle.mh_model.specs.{declared.birth.TheConstants.LIFE, Classes.parts, Deeds.make_deeds};
 ghost use Rattle.mh_deeds.specs.Logs.{Told};
-ghost use Rattle.mh_laws.specs.Bounds.{CollectorsStayInBounds};
-ghost use Rattle.mh_laws.specs.Commands.{CommandsAreAnswered};
+ghost use Rattle.mh_laws.specs.{Bounds.CollectorsStayInBounds, Commands.CommandsAreAnswered};
 ghost use Rattle.mh_laws.specs.Snapshots.{CollectorsStaySteady, CommandsKeepTheSnapshot, HeapsStayKept};
 ghost use Rattle.mh_heap.specs.Outcome.{done_or, number_or, same_or, shape_or};
 ghost use Rattle.mh_paged.specs.Kept.{KeepsEachWorld, Steps};
+ghost use Rattle.mh_model.specs.declared.command.Command.TheVariants as command;
 
 use crate::kept::{KeptHeap, field_below, parts_of};
 use crate::lent::{

@@ -4,8 +4,8 @@ ghost use Rattle.mh_model.specs.Pages.{slot_number, page_at, block_at, class_at,
 ghost use Rattle.mh_model.specs.Machine.{dump_block, dump_slots, dump_pages};
 ghost use Rattle.mh_paged.specs.Dumped.{slots_at, page_items};
 
+use mh_blocks::blocks::Blocks;
 use mh_classes::class::Class;
-use mh_cycle::mh_blocks::blocks::Blocks;
 use mh_model::dump::{Dump, DumpItem};
 use mh_model::limits::PLACES;
 use mh_model::memory::NoMemory;

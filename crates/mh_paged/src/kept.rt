@@ -13,29 +13,21 @@
 //! when it is dropped. A derived drop is proved table by table in the proof of each owner, at each of its ends: some 25
 //! steps for a heap, and 15 to 20 s of a processor.
 ghost use Rattle.std.specs.Prelude.{◌≡◌, ◌<◌, [], ◌∷◌, true, false, get_or, nat_le, nat_lt, ◌+◌, ◌≤◌, IfOk, MatchResult, Some, None};
-ghost use Rattle.mh_model.specs.World.{most_fields};
-ghost use Rattle.mh_model.specs.Classes.{parts};
-ghost use Rattle.mh_model.specs.Pages.{free_pages};
-ghost use Rattle.mh_model.specs.declared.birth.TheConstants.{LIFE};
-ghost use Rattle.mh_model.specs.Collector.{quantum};
-ghost use Rattle.mh_model.specs.Deeds.{quantum_deeds};
-ghost use Rattle.mh_model.specs.Machine.{dump_pages, quanta_left, stat_on};
-ghost use Rattle.mh_model.specs.Mutator.{first_heap, root_at, shape_at};
-ghost use Rattle.mh_model.specs.Invariant.{IsObjectAt};
+ghost use Rattle.mh_model.specs.{World.most_fields, Classes.parts, Pages.free_pages, declared.birth.TheConstants.LIFE};
+ghost use Rattle.mh_model.specs.{Collector.quantum, Deeds.quantum_deeds, Machine.{dump_pages, quanta_left, stat_on}};
+ghost use Rattle.mh_model.specs.{Mutator.{first_heap, root_at, shape_at}, Invariant.IsObjectAt};
 ghost use Rattle.mh_model.specs.declared.reply.Refusal.TheVariants.{Null, NoField, TooLarge, Ended, TooManySessions};
 ghost use Rattle.mh_model.specs.Limits.{root_slots};
 ghost use Rattle.mh_deeds.specs.Logs.{Told};
 ghost use Rattle.mh_laws.specs.Forwarders.{MakesItsForwarders};
 ghost use Rattle.mh_cycle.specs.Snapshots.{ContinuesEach};
 ghost use Rattle.mh_heap.specs.Checks.{tested};
-ghost use Rattle.mh_paged.specs.Kept.{KeepsEachWorld, StartsFromItsView};
-ghost use Rattle.mh_paged.specs.Lawful.{IsLawful};
+ghost use Rattle.mh_paged.specs.{Kept.{KeepsEachWorld, StartsFromItsView}, Lawful.IsLawful};
 
 use crate::lent::{dump_table, forwarder_count, free_pages, live_count, root, shape_of};
+use mh_blocks::blocks::Blocks;
 use mh_classes::parts::{Parts, parts};
 use mh_cycle::cycle::Cycle;
-use mh_cycle::mh_blocks::blocks::Blocks;
-use mh_cycle::mh_scan::scan::Scanner;
 use mh_deeds::log::Log;
 use mh_groups::group::PartPlaces;
 use mh_laws::bounds::{collectors_stay_in_bounds, quantum_starts_one_cycle_at_most};
@@ -56,6 +48,7 @@ use mh_run_laws::following::commands_follow;
 use mh_run_laws::showing::{
     kept_views_agree_with_themselves, kept_views_are_closed, quanta_keep_the_view,
 };
+use mh_scan::scan::Scanner;
 use std::alloc::Global;
 use std::marker::Model;
 /// The heap of pages with its collector and its sessions.

@@ -3,21 +3,18 @@
 //! The collector owns both, and its barriers need it whole. So a command borrows them for one deed at a time, and its
 //! proof sees the collector as one value before and after.
 ghost use Rattle.std.specs.Prelude.{◌≡◌, ◌^◌, ◌<◌, ◌≤◌, ◌+◌, Some, None, IsSome, IfOk, OnOk, OnErr, get_or, length, option_map, filter, not};
-ghost use Rattle.mh_model.specs.Classes.{parts};
-ghost use Rattle.mh_model.specs.Pages.{block_at, free_pages, Leads};
+ghost use Rattle.mh_model.specs.{Classes.parts, Pages.{block_at, free_pages, Leads}};
 ghost use Rattle.mh_model.specs.Table.{references_at, numbers_at, forward_at, position_of, reference_in, loaded_reference, number_index, number_in, made_group, is_forwarder};
-ghost use Rattle.mh_model.specs.Deeds.{make_deeds};
-ghost use Rattle.mh_model.specs.Machine.{blocks_of, dump_pages};
+ghost use Rattle.mh_model.specs.{Deeds.make_deeds, Machine.{blocks_of, dump_pages}};
 ghost use Rattle.mh_model.specs.Mutator.{with_root, with_reference_stored, with_number_stored, with_roots_cleared};
-ghost use Rattle.mh_model.specs.Invariant.{IsFindable, IsSteady};
-ghost use Rattle.mh_model.specs.Limits.{root_slots};
+ghost use Rattle.mh_model.specs.{Invariant.{IsFindable, IsSteady}, Limits.root_slots};
 ghost use Rattle.mh_deeds.specs.Logs.{Told};
 ghost use Rattle.mh_cycle.specs.State.{state_with_collector};
 
 use crate::dump::dump;
+use mh_blocks::blocks::Full;
 use mh_classes::parts::Parts;
 use mh_cycle::cycle::Cycle;
-use mh_cycle::mh_blocks::blocks::Full;
 use mh_deeds::log::Log;
 use mh_groups::field::{Position, load_int, load_ref, position, store_int};
 use mh_groups::group::{PartPlaces, make_group};

@@ -4,9 +4,6 @@
 //! the same heap in terms of what sessions see, as the trait `Heap` asks.
 #![tactic(auto)]
 
-pub use mh_cycle::{mh_blocks, mh_scan};
-pub use mh_heap;
-
 mod commands;
 mod dump;
 pub mod kept;

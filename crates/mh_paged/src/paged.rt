@@ -8,15 +8,11 @@
 //! as what `Heap::quantum` collects. `start` asks for a cycle, and keeps each such world too. What is read of `KeptHeap`
 //! is read here, but for its root slots.
 ghost use Rattle.std.specs.Prelude.{◌≡◌, ◌<◌, true, IfOk};
-ghost use Rattle.mh_model.specs.declared.birth.TheConstants.{LIFE};
-ghost use Rattle.mh_model.specs.Pages.{free_pages};
-ghost use Rattle.mh_model.specs.Machine.{dump_pages, quanta_left, stat_on};
-ghost use Rattle.mh_model.specs.Mutator.{first_heap};
-ghost use Rattle.mh_paged.specs.Kept.{KeepsEachWorld, Steps};
-ghost use Rattle.mh_paged.specs.Lawful.{IsLawful};
+ghost use Rattle.mh_model.specs.{declared.birth.TheConstants.LIFE, Pages.free_pages};
+ghost use Rattle.mh_model.specs.{Machine.{dump_pages, quanta_left, stat_on}, Mutator.first_heap};
+ghost use Rattle.mh_paged.specs.{Kept.{KeepsEachWorld, Steps}, Lawful.IsLawful};
 
 use crate::kept::KeptHeap;
-use mh_cycle::mh_scan::scan::Scanner;
 use mh_deeds::log::NoLog;
 use mh_heap::heap::Heap;
 use mh_heap::perform::perform;
@@ -29,6 +25,7 @@ use mh_model::memory::NoMemory;
 use mh_model::reply::{Refusal, Reply};
 use mh_model::shape::Shape;
 use mh_model::stat::Stat;
+use mh_scan::scan::Scanner;
 use std::alloc::Global;
 
 /// The heap of pages, with what the laws say of it at each moment.
@@ -110,8 +107,7 @@ impl PagedHeap {
 }
 
 impl Heap for PagedHeap {
-    ghost use Rattle.mh_paged.specs.Lawful.{IsQuantum, showing};
-    ghost use Rattle.mh_paged.specs.Telling.{commands_shown, quanta_shown};
+    ghost use Rattle.mh_paged.specs.{Lawful.{IsQuantum, showing}, Telling.{commands_shown, quanta_shown}};
 
     ghost shown = { λ heap. showing heap.kept };
 
@@ -209,7 +205,7 @@ impl Heap for PagedHeap {
     }
 
     fn quantum<S: Scanner>(&mut self, scanner: &mut S) -> Spent {
-        self.quantum_told(scanner, &mut NoLog)
+        self.quantum_with_log(scanner, &mut NoLog)
     }
 
     fn births(&self) -> u64 {

@@ -4,18 +4,15 @@
 //! is read off the end of the grey list after the command, in the order of shading. A quantum tells its deeds to any
 //! log. Both are otherwise as those that tell nothing.
 ghost use Rattle.std.specs.Prelude.{◌≡◌, ◌<◌, Some, drop, length, map, slice_get};
-ghost use Rattle.mh_model.specs.declared.birth.TheConstants.{LIFE};
-ghost use Rattle.mh_model.specs.declared.command.Command.TheVariants as command;
-ghost use Rattle.mh_model.specs.declared.deed.Deed.TheVariants as deed;
-ghost use Rattle.mh_model.specs.Classes.{parts};
+ghost use Rattle.mh_model.specs.{declared.birth.TheConstants.LIFE, Classes.parts};
 ghost use Rattle.mh_model.specs.Deeds.{Adds, new_deeds, command_deeds, quantum_deeds};
 ghost use Rattle.mh_deeds.specs.Logs.{Told};
-ghost use Rattle.mh_paged.specs.Kept.{KeepsEachWorld, Steps};
-ghost use Rattle.mh_paged.specs.Lawful.{IsQuantum};
+ghost use Rattle.mh_paged.specs.{Kept.{KeepsEachWorld, Steps}, Lawful.IsQuantum};
+ghost use Rattle.mh_model.specs.declared.command.Command.TheVariants as command;
+ghost use Rattle.mh_model.specs.declared.deed.Deed.TheVariants as deed;
 
 use crate::kept::KeptHeap;
 use crate::paged::PagedHeap;
-use mh_cycle::mh_scan::scan::Scanner;
 use mh_deeds::log::{Deeds, Log};
 use mh_laws::snapshots::commands_keep_the_snapshot;
 use mh_model::command::Command;
@@ -23,6 +20,7 @@ use mh_model::cycle::Spent;
 use mh_model::deed::Deed;
 use mh_model::place::Place;
 use mh_model::reply::Reply;
+use mh_scan::scan::Scanner;
 
 impl KeptHeap {
     /// How many blocks are grey.
@@ -55,7 +53,7 @@ impl KeptHeap {
 /// The same of the heap as its sessions see it, with what its commands do.
 impl PagedHeap {
     /// Runs a quantum, and tells its deeds.
-    pub fn quantum_told<S: Scanner, L: Log>(&mut self, scanner: &mut S, log: &mut L) -> Spent
+    pub fn quantum_with_log<S: Scanner, L: Log>(&mut self, scanner: &mut S, log: &mut L) -> Spent
         requires { self.old.kept.collector.cycle < LIFE }
         ensures collects { IsQuantum self.old.kept result self.new.kept }
         ensures told { Told L.has log.old (quantum_deeds self.old.kept.config self.old.kept.collector) log.new }

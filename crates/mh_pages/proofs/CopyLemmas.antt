@@ -1,16 +1,11 @@
 -- Words copied one after another, and a block copied to a place that was taken for it.
 use Rattle.std.proofs.Common.{◌≡◌, ℕ, suc, ◌+◌, ◌*◌, ◌/◌, ◌<◌, ◌≤◌, ◌⊎◌, Bool, inl, inr, Some, is_some, IsSome, unwrap_or, List, [], length, get_or, ap, ◌∙◌, sym, subst, arith}
-use Rattle.std.proofs.lemmas.Bool.{cases_eq, cases_lt, false≢true}
-use Rattle.std.proofs.Math.Nat.{mul-le-mul_right}
+use Rattle.std.proofs.{lemmas.Bool.{cases_eq, cases_lt, false≢true}, Math.Nat.mul-le-mul_right}
 use Rattle.mh_model.specs.Pages.{Table, page_number, slot_number, block_at, class_at, with_block, with_taken, IsFreeFor}
-use Rattle.mh_pages.specs.Shown.{words_from, shown_table}
-use Rattle.mh_pages.specs.Words.{words_at}
-use Rattle.mh_pages.specs.Kept.{IsCopied, AreApart, AreStored}
+use Rattle.mh_pages.specs.{Shown.{words_from, shown_table}, Words.words_at, Kept.{IsCopied, AreApart, AreStored}}
 use Rattle.mh_table_laws.proofs.placing.Places.{block_at-with_taken_there, with_block-with_taken}
-use Rattle.mh_pages.proofs.TableLemmas.{page_of_block, other_class}
-use Rattle.mh_pages.proofs.ShownLemmas.{IsTaken, block_at-shown}
-use Rattle.mh_pages.proofs.WriteLemmas.{block_fits, shown-copied}
-use Rattle.mh_pages.proofs.KeptLemmas.{start, kept-block, block_of}
+use Rattle.mh_pages.proofs.{TableLemmas.{page_of_block, other_class}, ShownLemmas.{IsTaken, block_at-shown}}
+use Rattle.mh_pages.proofs.{WriteLemmas.{block_fits, shown-copied}, KeptLemmas.{start, kept-block, block_of}}
 use Rattle.mh_pages.proofs.TakenLemmas.{size_shown, place_taken, size_taken}
 
 -- two slots of a size have no word in common
@@ -19,15 +14,12 @@ slots_apart : (page slot other_page other_slot size : ℕ) → slot * size + siz
 slots_apart page slot other_page other_slot size fits other_fits apart = by_page (cases_eq page other_page)
   where
     by_page : (page ≡ other_page) ⊎ (page ≡ other_page → ⊥) → AreApart (256 * page + slot * size) (256 * other_page + other_slot * size) size
-    by_page (inr pages) = elim (cases_lt page other_page) [ inl below ↦ inl (omega arith) | inr above ↦ inr (omega arith) ]
+    by_page (inr pages) = grind arith
     by_page (inl one) = elim (cases_lt slot other_slot) [
-      | inl below ↦
-          let rows : suc slot * size ≤ other_slot * size = mul-le-mul_right size below in
-          inl (omega (arith, rows))
+      | inl below ↦ grind (arith, mul-le-mul_right size below)
       | inr above ↦
           let more : other_slot < slot = omega (arith, λ (e : slot ≡ other_slot). apart (one, e)) in
-          let rows : suc other_slot * size ≤ slot * size = mul-le-mul_right size more in
-          inr (omega (arith, rows))
+          inr (omega (arith, mul-le-mul_right size more))
     ]
 
 -- A place taken for a copy of a block of the class
@@ -49,16 +41,13 @@ module _ (heads frees words : List ℕ) (sets : List Bool) (free : ℕ) (kept : 
       (ap (λ t. class_at t (page_number source)) taken ∙ (other_class old size place block (page_number source) is (ap is_some (page_of_block old source there).is) ∙ class))
 
   not_there : (page_number source ≡ page_number place) × (slot_number source ≡ slot_number place) → ⊥
-  not_there both = false≢true (sym (ap is_some is.empty) ∙ (ap (λ k. is_some (block_at old k)) (one_place both.0 both.1) ∙ there))
-    where
-      one_place : page_number source ≡ page_number place → slot_number source ≡ slot_number place → place ≡ source
-      one_place pages slots = omega arith
+  not_there both = grind arith
 
   fits : (other : ℕ) → IsTaken heads frees other → get_or heads (page_number other) 0 / 2 ≡ size → slot_number other * size + size ≤ 256
-  fits other its e = subst (λ s. slot_number other * s + s ≤ 256) e (block_fits heads frees words other kept.pages its)
+  fits other its e = grind arith
 
   pub blocks_apart : AreApart (256 * page_number source + slot_number source * size) (256 * page_number place + slot_number place * size) size
-  blocks_apart = slots_apart (page_number source) (slot_number source) (page_number place) (slot_number place) size (fits source source_taken source_size) (fits place copy_taken copy_size) not_there
+  blocks_apart = search (arith, slots_apart, fits, source_taken, source_size, copy_taken, copy_size, not_there)
 
   pub source_within : 256 * page_number source + slot_number source * size + size ≤ length words
   source_within = omega (arith, fits source source_taken source_size, source_taken.inside, kept.sized.as_many_words)
@@ -68,9 +57,7 @@ module _ (heads frees words : List ℕ) (sets : List Bool) (free : ℕ) (kept : 
 
   module _ (new : List ℕ) (copied : IsCopied words new (256 * page_number source + slot_number source * size) (256 * page_number place + slot_number place * size) size) where
     of_its_size : IsCopied words new (start heads frees words sets free kept source) (start heads frees words sets free kept place) (get_or heads (page_number place) 0 / 2)
-    of_its_size =
-        subst (λ s. IsCopied words new (256 * page_number source + slot_number source * s) (start heads frees words sets free kept place) (get_or heads (page_number place) 0 / 2)) (sym source_size)
-        (subst (λ s. IsCopied words new (256 * page_number source + slot_number source * size) (256 * page_number place + slot_number place * s) s) (sym copy_size) copied)
+    of_its_size = grind (arith, start, source_size, copy_size)
 
     pub kept-copied : AreStored heads frees new sets free
     kept-copied = kept-block heads frees words sets free kept place new copy_taken of_its_size.others
@@ -78,11 +65,9 @@ module _ (heads frees words : List ℕ) (sets : List Bool) (free : ℕ) (kept : 
     block_copied : Some (words_from words (256 * page_number source + slot_number source * (get_or heads (page_number source) 0 / 2)) (get_or heads (page_number place) 0 / 2)) ≡ Some (words_at old source)
     block_copied =
         ap (λ s. Some (words_from words (256 * page_number source + slot_number source * (get_or heads (page_number source) 0 / 2)) s)) (copy_size ∙ sym source_size)
-        ∙ (ap (λ o. Some (unwrap_or o [])) (sym (block_at-shown heads frees words source source_taken))
-        ∙ (ap (λ t. Some (words_at t source)) (shown ∙ taken) ∙ ap (λ o. Some (unwrap_or o [])) (block_at-with_taken_there old size place source block is there)))
+        ∙ (grind (arith, block_at-shown heads frees words source source_taken, block_at-with_taken_there old size place source block is there))
 
     pub copied_shown : shown_table heads frees new ≡ with_taken old size place (words_at old source)
     copied_shown =
         shown-copied heads frees words place kept.pages new _ copy_taken of_its_size
-        ∙ (ap (with_block (shown_table heads frees words) place) block_copied
-        ∙ (ap (λ t. with_block t place (Some (words_at old source))) (shown ∙ taken) ∙ with_block-with_taken old size place block (words_at old source) is))
+        ∙ (grind (arith, block_copied, with_block-with_taken))

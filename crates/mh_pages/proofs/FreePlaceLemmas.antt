@@ -1,15 +1,12 @@
 -- How many places of a page are free for a class, by its words, and how many of all pages.
 use Rattle.std.proofs.Common.{◌≡◌, ◌≢◌, ℕ, zero, suc, ◌+◌, ◌/◌, ◌<◌, ◌≤◌, ◌==◌, if◌then◌else◌, false, List, [], ◌∷◌, Option, Some, None, option_map, unwrap_or, length, take, refl, ap, ◌∙◌, arith, eq-eqb}
-use Rattle.std.specs.Int.Count.{ones}
 use Rattle.std.proofs.lemmas.Bool.{ne_eqb}
-use Rattle.mh_model.specs.Classes.{slots_in}
-use Rattle.mh_model.specs.Pages.{Table, page_at, block_count, live_in}
+use Rattle.std.specs.Int.Count.{ones}
+use Rattle.mh_model.specs.{Classes.slots_in, Pages.{Table, page_at, block_count, live_in}}
 use Rattle.mh_model.proofs.TabulateLemmas.{length-tabulate}
 use Rattle.mh_bits.specs.Bits.{has_bit}
-use Rattle.mh_pages.specs.FreePlaces.{empty_count, free_in, free_places}
-use Rattle.mh_pages.specs.Shown.{shown_slot, shown_slots, shown_page}
-use Rattle.mh_pages.proofs.ShownLemmas.{free_page, used_page}
-use Rattle.mh_pages.proofs.LiveLemmas.{live-shown}
+use Rattle.mh_pages.specs.{FreePlaces.{empty_count, free_in, free_places}, Shown.{shown_slot, shown_slots, shown_page}}
+use Rattle.mh_pages.proofs.{ShownLemmas.{free_page, used_page}, LiveLemmas.live-shown}
 
 module _ {X : Type 0} where
   -- each slot has a block or has none

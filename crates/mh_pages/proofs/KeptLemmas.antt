@@ -1,11 +1,10 @@
 -- What is kept of pages through each change.
 use Rattle.std.proofs.Common.{◌≡◌, ◌≢◌, ℕ, ◌+◌, ◌-◌, ◌*◌, ◌/◌, ◌%◌, ◌^◌, ◌<◌, ◌≤◌, ◌==◌, ◌⊎◌, Bool, true, false, inl, inr, Option, Some, None, is_some, IsSome, option_map, unwrap_or, List, [], length, get_or, set, refl, ap, ◌∙◌, sym, subst, arith, eq-eqb}
+use Rattle.std.proofs.lemmas.Bool.{cases_eq, cases_lt, cases_Bool, ne_eqb, or_right, or_cases, eqb-true, false≢true}
+use Rattle.std.proofs.{lemmas.Option.none-some, lemmas.List.{length-set, set-get_or}}
+use Rattle.std.proofs.lemmas.Nat.Bits.{bit_at_and, ones_shr}
 use Rattle.std.specs.Int.{bit_not, w64}
 use mir.Val.{bits, bool_byte}
-use Rattle.std.proofs.lemmas.Bool.{cases_eq, cases_lt, cases_Bool, ne_eqb, or_right, or_cases, eqb-true, false≢true}
-use Rattle.std.proofs.lemmas.Option.{none-some}
-use Rattle.std.proofs.lemmas.List.{length-set, set-get_or}
-use Rattle.std.proofs.lemmas.Nat.Bits.{bit_at_and, ones_shr}
 use Rattle.mh_model.specs.Classes.{is_class_size, slots_in}
 use Rattle.mh_model.specs.Pages.{Page, Table, page_at, block_at, class_at, flag_at, page_with, page_for, with_block, with_taken, with_flag, flagged_as, free_pages, IsFreeFor, HasItsSlots, HaveTheirSlots}
 use Rattle.mh_model.proofs.TabulateLemmas.{length-tabulate}
@@ -14,8 +13,7 @@ use Rattle.mh_bits.proofs.BitLemmas.{has_bit-zero, has_bit-ones_above, has_bit-s
 use Rattle.mh_bits.proofs.SetLemmas.{with_bit, without_bit}
 use Rattle.mh_classes.proofs.ClassLemmas.{IsClass, class_is}
 use Rattle.mh_pages.specs.Shown.{words_from, shown_slot, shown_slots, page_of, shown_page, shown_table}
-use Rattle.mh_pages.specs.Words.{words_at, with_word}
-use Rattle.mh_pages.specs.Addresses.{Address, address_in}
+use Rattle.mh_pages.specs.{Words.{words_at, with_word}, Addresses.{Address, address_in}}
 use Rattle.mh_pages.specs.Indexed.{IsIndexed, indexed_again, indexed_after, HasLengthsFor}
 use Rattle.mh_pages.specs.Kept.{is_head, AgreeOutside, AreStored}
 use Rattle.mh_pages.proofs.ShownLemmas.{length-shown, page_at-shown, page_at-shown_past, block_at-shown, head_class, free_page, used_page, used_page_of, shown-set, IsTaken, IsWord, word_taken, taken_place}
@@ -26,13 +24,12 @@ use Rattle.mh_table_laws.proofs.placing.Places.{block_at-with_taken_same}
 
 -- a bit that isn't set isn't set after another is cleared
 has_bit-less : (n k i : ℕ) → has_bit n i ≡ false → has_bit (without_bit n k) i ≡ false
-has_bit-less n k i e = ne_eqb _ _ (λ h. absurd (omega (arith, h, bit_at_and n (bit_not w64 (1 * 2 ^ k % 2 ^ bits w64)) i, bit_clear n i e)))
+has_bit-less n k i e = grind (arith, ne_eqb, bit_at_and, bit_clear)
 
 -- a word of which as many bits are set as a page has slots
 pub full_word : (slots : ℕ) → slots ≤ 64 → (2 ^ 64 - 1) / 2 ^ (64 - slots) ≡ 2 ^ slots - 1
 full_word slots few =
-    let left : 64 - (64 - slots) ≡ slots = omega arith in
-    ones_shr 64 (64 - slots) (omega arith) ∙ ap (λ n. 2 ^ n - 1) left
+    ones_shr 64 (64 - slots) (omega arith) ∙ ap (λ n. 2 ^ n - 1) (omega arith)
 
 -- a head with another flag
 pub record IsMarked (old head : ℕ) (flag : Bool) : Type 0 where
@@ -41,13 +38,11 @@ pub record IsMarked (old head : ℕ) (flag : Bool) : Type 0 where
   pub is_flag : (head % 2 == 1) ≡ flag
 
 pub marked : (old : ℕ) (flag : Bool) → 4 ≤ old / 2 → IsMarked old (old / 2 * 2 + bool_byte flag) flag
-marked old true few = record { some = λ e. absurd (omega (arith, e)); same = omega arith; is_flag = eq-eqb _ _ (omega arith) }
-marked old false few = record { some = λ e. absurd (omega (arith, e)); same = omega arith; is_flag = ne_eqb _ _ (λ e. absurd (omega (arith, e))) }
+marked old flag few = grind arith
 
 -- what stands at a place that was taken is its block
 pub told_taken : (old new : Table (List ℕ)) (size place : ℕ) (block : List ℕ) → IsFreeFor old size place → new ≡ with_taken old size place block → new ≡ with_taken old size place (words_at new place)
-told_taken old new size place block is taken =
-    taken ∙ ap (λ o. with_taken old size place (unwrap_or o [])) (sym (ap (λ t. block_at t place) taken ∙ block_at-with_taken_same old size place block is))
+told_taken old new size place block is taken = grind (arith, block_at-with_taken_same)
 
 module _ (heads frees words : List ℕ) (sets : List Bool) (free : ℕ) (kept : AreStored heads frees words sets free) where
   -- Pages in use, places with a block, and words of blocks --------------------------------------
@@ -67,13 +62,13 @@ module _ (heads frees words : List ℕ) (sets : List Bool) (free : ℕ) (kept : 
       by_page (inr past) = absurd (not_none (page_at-shown_past heads frees words page past))
 
   pub class_used : (page : ℕ) → get_or heads page 0 ≢ 0 → is_class_size (get_or heads page 0 / 2) ≡ true
-  class_used page used = elim (or_cases _ _ (kept.pages.are_heads page)) [ inl none ↦ absurd (used (eqb-true _ _ none)) | inr class ↦ class ]
+  class_used page used = grind arith
 
   pub size_used : (page : ℕ) → get_or heads page 0 ≢ 0 → IsClass (get_or heads page 0 / 2)
   size_used page used = head_class _ (kept.pages.are_heads page) used
 
   pub block_of : (table : Table (List ℕ)) (place : ℕ) → shown_table heads frees words ≡ table → IsSome (block_at table place) → IsTaken heads frees place
-  block_of table place shown some = taken_place heads frees words place (λ e. false≢true (sym (ap is_some e) ∙ (ap (λ t. is_some (block_at t place)) shown ∙ some)))
+  block_of table place shown some = grind (arith, taken_place, false≢true)
 
   pub word_of : (table : Table (List ℕ)) (place index : ℕ) → shown_table heads frees words ≡ table → index < length (words_at table place) → IsWord heads frees place index
   word_of table place index shown within = word_taken heads frees words place index (subst (λ t. index < length (words_at t place)) (sym shown) within)
@@ -82,11 +77,11 @@ module _ (heads frees words : List ℕ) (sets : List Bool) (free : ℕ) (kept : 
   inside_of table page shown within = omega (arith, within, ap length shown, length-shown heads frees words)
 
   pub room : (page : ℕ) → page < length heads → HasLengthsFor page heads frees sets
-  room page inside = record { within = inside; few = kept.sized.few_pages; as_many_frees = kept.sized.as_many_frees; as_many_sets = kept.sized.as_many_sets }
+  room page inside = grind arith
 
   -- no more pages are free than there are
   pub free_few : free ≤ 4096
-  free_few = omega (arith, kept.free_count, free_pages-few (shown_table heads frees words), length-shown heads frees words, kept.sized.few_pages)
+  free_few = grind (arith, free_pages-few, length-shown)
 
   page_used : (page : ℕ) → IsUsed page → page_at (shown_table heads frees words) page ≡ Some (page_of (get_or heads page 0 / 2) (get_or heads page 0 % 2 == 1) (shown_slots (get_or frees page 0) words page (get_or heads page 0 / 2)))
   page_used page is = page_at-shown heads frees words page is.inside ∙ used_page _ _ words page is.used
@@ -95,30 +90,20 @@ module _ (heads frees words : List ℕ) (sets : List Bool) (free : ℕ) (kept : 
   their_slots number page at = by_page (cases_lt number (length heads))
     where
       of_used : IsUsed number → HasItsSlots page
-      of_used is = subst HasItsSlots (some_same _ page (sym (page_used number is) ∙ at)) (record { class = class_used number is.used; slots = length-tabulate (shown_slot (get_or frees number 0) words number (get_or heads number 0 / 2)) 0 (slots_in (get_or heads number 0 / 2)) })
-        where
-          some_same : (a b : Page (List ℕ)) → Some a ≡ Some b → a ≡ b
-          some_same a b e = cc
+      of_used is = grind (arith, page_used, class_used, length-tabulate)
 
       by_page : (number < length heads) ⊎ (length heads ≤ number) → HasItsSlots page
-      by_page (inr past) = absurd (none-some page (sym (page_at-shown_past heads frees words number past) ∙ at))
-      by_page (inl inside) = elim (cases_eq (get_or heads number 0) 0) [
-        | inl none ↦ absurd (none-some page (sym (page_at-shown heads frees words number inside ∙ free_page _ _ words number none) ∙ at))
-        | inr used ↦ of_used (record { inside = inside; used = used })
-      ]
+      by_page is = grind (arith, none-some, page_at-shown_past, cases_eq, page_at-shown, free_page, of_used)
 
   -- the class and the flag of a page
   pub class_shown : (page : ℕ) → IsUsed page → class_at (shown_table heads frees words) page ≡ Some (get_or heads page 0 / 2)
   class_shown page is = ap (option_map (λ used. used.class_size)) (page_used page is)
 
   pub class_none : (page : ℕ) → page < length heads → get_or heads page 0 ≡ 0 → class_at (shown_table heads frees words) page ≡ None
-  class_none page inside none = ap (option_map (λ used. used.class_size)) (page_at-shown heads frees words page inside ∙ free_page _ _ words page none)
+  class_none page inside none = grind (arith, page_at-shown, free_page)
 
   pub flag_shown : (page : ℕ) → page < length heads → flag_at (shown_table heads frees words) page ≡ (get_or heads page 0 % 2 == 1)
-  flag_shown page inside = elim (cases_eq (get_or heads page 0) 0) [
-    | inl none ↦ ap (λ o. unwrap_or (option_map (λ used. used.is_flagged) o) false) (page_at-shown heads frees words page inside ∙ free_page _ _ words page none) ∙ sym (ne_eqb _ _ (λ e. absurd (omega arith)))
-    | inr used ↦ ap (λ o. unwrap_or (option_map (λ used. used.is_flagged) o) false) (page_used page (record { inside = inside; used = used }))
-  ]
+  flag_shown page inside = grind (arith, cases_eq, page_at-shown, free_page, ne_eqb, page_used)
 
   -- Words of a block written ---------------------------------------------------------------------
 
@@ -130,40 +115,24 @@ module _ (heads frees words : List ℕ) (sets : List Bool) (free : ℕ) (kept : 
   size_at place = get_or heads (place / 64) 0 / 2
 
   pub start_few : (place : ℕ) → IsTaken heads frees place → start place + size_at place ≤ length words
-  start_few place is = omega (arith, block_fits heads frees words place kept.pages is, is.inside, kept.sized.as_many_words)
+  start_few place is = grind arith
 
   pub address_shown : (place : ℕ) → IsTaken heads frees place → address_in (shown_table heads frees words) place ≡ record { place = place; word = start place }
-  address_shown place is = ap (λ o. record { place = place; word = 256 * (place / 64) + (place % 64) * unwrap_or o 0 }) (class_shown (place / 64) (record { inside = is.inside; used = is.used }))
+  address_shown place is = grind (arith, class_shown)
 
   pub word_at : (table : Table (List ℕ)) (address : Address) → shown_table heads frees words ≡ table → address ≡ address_in table address.place → IsTaken heads frees address.place → address.word ≡ start address.place
-  word_at table address shown at is = ap (λ a. a.word) at ∙ (sym (ap (λ t. (address_in t address.place).word) shown) ∙ ap (λ a. a.word) (address_shown address.place is))
+  word_at table address shown at is = grind (arith, address_shown)
 
   -- a block has at least the words of its header
   pub header_words : (table : Table (List ℕ)) (place : ℕ) → shown_table heads frees words ≡ table → IsSome (block_at table place) → 4 ≤ length (words_at table place)
-  header_words table place shown some =
-      let is = block_of table place shown some in
-      omega (
-        arith,
-        (size_used (place / 64) is.used).least,
-        ap (λ t. length (words_at t place)) shown,
-        ap (λ b. length {A = ℕ} (unwrap_or b [])) (block_at-shown heads frees words place is),
-        length-tabulate (λ i. get_or words (start place + i) 0) 0 (size_at place),
-      )
+  header_words table place shown some = grind (arith, block_of, size_used, block_at-shown, length-tabulate)
 
   free_pages-with_block : (place : ℕ) (content : Option (List ℕ)) → IsTaken heads frees place → free_pages (with_block (shown_table heads frees words) place content) ≡ free_pages (shown_table heads frees words)
-  free_pages-with_block place content is =
-      let at = page_used (place / 64) (record { inside = is.inside; used = is.used }) in
-      ap (λ o. free_pages (set (shown_table heads frees words) (place / 64) (option_map (page_with (place % 64) content) o))) at
-      ∙ free_pages-same (shown_table heads frees words) (place / 64) _ _ at
+  free_pages-with_block place content is = grind (arith, page_used, free_pages-same)
 
   pub kept-block : (place : ℕ) (new : List ℕ) → IsTaken heads frees place → AgreeOutside words new (start place) (start place + size_at place) → AreStored heads frees new sets free
   kept-block place new is agree = record {
-    sized = record {
-      few_pages = kept.sized.few_pages;
-      as_many_frees = kept.sized.as_many_frees;
-      as_many_words = agree.lengths ∙ kept.sized.as_many_words;
-      as_many_sets = kept.sized.as_many_sets;
-    };
+    sized = grind arith;
     pages = kept.pages;
     indexed = kept.indexed;
     free_count = kept.free_count ∙ (sym (free_pages-with_block place _ is) ∙ ap free_pages (sym (shown-block heads frees words place kept.pages new is agree)));
@@ -177,7 +146,7 @@ module _ (heads frees words : List ℕ) (sets : List Bool) (free : ℕ) (kept : 
   kept-word place index word is = kept-block place _ is.place_taken (written_inside words (start place + index) word (start place) (start place + size_at place) (omega arith) (omega (arith, is.in_block)))
 
   pub word_shown : (place index word : ℕ) → IsWord heads frees place index → shown_table heads frees (set words (start place + index) word) ≡ with_word (shown_table heads frees words) place index word
-  word_shown place index word is = shown-word heads frees words place kept.pages index word kept.sized.as_many_words is.place_taken is.in_block
+  word_shown place index word is = grind (arith, shown-word)
 
   -- One page changed -----------------------------------------------------------------------------
 
@@ -185,17 +154,7 @@ module _ (heads frees words : List ℕ) (sets : List Bool) (free : ℕ) (kept : 
       → IsIndexed (set heads page head) (set frees page new_free) new_sets → length new_sets ≡ length sets
       → count ≡ free_pages (set (shown_table heads frees words) page (shown_page head new_free words page))
       → AreStored (set heads page head) (set frees page new_free) words new_sets count
-  kept-set page head new_free count new_sets inside is none indexed same counted = record {
-    sized = record {
-      few_pages = omega (arith, length-set heads page head, kept.sized.few_pages);
-      as_many_frees = length-set frees page new_free ∙ (kept.sized.as_many_frees ∙ sym (length-set heads page head));
-      as_many_words = kept.sized.as_many_words ∙ ap (λ n. 256 * n) (sym (length-set heads page head));
-      as_many_sets = same ∙ kept.sized.as_many_sets;
-    };
-    pages = pages-set heads frees page head new_free kept.pages inside kept.sized.as_many_frees is none;
-    indexed = indexed;
-    free_count = counted ∙ ap free_pages (sym (shown-set heads frees words page head new_free inside kept.sized.as_many_frees));
-  }
+  kept-set page head new_free count new_sets inside is none indexed same counted = grind (arith, length-set, pages-set, shown-set)
 
   -- a page that is in use before and after
   kept-used : (page head new_free : ℕ) (new_sets : List Bool) → IsUsed page → head ≢ 0 → is_head head ≡ true → ((slot : ℕ) → slots_in (head / 2) ≤ slot → has_bit new_free slot ≡ false)
@@ -220,16 +179,12 @@ module _ (heads frees words : List ℕ) (sets : List Bool) (free : ℕ) (kept : 
       → shown_table heads (set frees page new_free) words ≡ set (shown_table heads frees words) page (Some (page_of (get_or heads page 0 / 2) (get_or heads page 0 % 2 == 1) (shown_slots new_free words page (get_or heads page 0 / 2))))
   shown-free page new_free is =
       ap (λ h. shown_table h (set frees page new_free) words) (sym (set-get_or heads page 0))
-      ∙ (shown-set heads frees words page (get_or heads page 0) new_free is.inside kept.sized.as_many_frees
-      ∙ ap (set (shown_table heads frees words) page) (used_page (get_or heads page 0) new_free words page is.used))
+      ∙ (grind (arith, shown-set, used_page))
 
   -- A page in use with a flag
   pub flagged_shown : (page head : ℕ) (flag : Bool) → IsUsed page → head ≢ 0 → head / 2 ≡ get_or heads page 0 / 2 → (head % 2 == 1) ≡ flag
       → shown_table (set heads page head) (set frees page (get_or frees page 0)) words ≡ with_flag (shown_table heads frees words) page flag
-  flagged_shown page head flag is some same is_flag =
-      shown-set heads frees words page head (get_or frees page 0) is.inside kept.sized.as_many_frees
-      ∙ ap (set (shown_table heads frees words) page)
-      (used_page_of head (get_or frees page 0) words page (get_or heads page 0 / 2) flag some same is_flag ∙ ap (option_map (flagged_as flag)) (sym (page_used page is)))
+  flagged_shown page head flag is some same is_flag = grind (arith, shown-set, used_page_of, page_used)
 
   pub kept-flagged : (page head : ℕ) → IsUsed page → head ≢ 0 → head / 2 ≡ get_or heads page 0 / 2
       → AreStored (set heads page head) (set frees page (get_or frees page 0)) words (indexed_again sets page (get_or heads page 0 / 2) head (get_or frees page 0)) free
@@ -266,12 +221,7 @@ module _ (heads frees words : List ℕ) (sets : List Bool) (free : ℕ) (kept : 
 
     -- A slot given back
     pub released_shown : IsTaken heads frees place → shown_table heads (set frees a_page (with_bit a_free a_slot)) words ≡ with_block (shown_table heads frees words) place None
-    released_shown is =
-        let used : IsUsed a_page = record { inside = is.inside; used = is.used } in
-        shown-free a_page (with_bit a_free a_slot) used
-        ∙ ap (set (shown_table heads frees words) a_page)
-        (ap (λ slots. Some (page_of (a_head / 2) (a_head % 2 == 1) slots)) (slots-released heads frees words place kept.pages)
-        ∙ ap (option_map (page_with a_slot None)) (sym (page_used a_page used)))
+    released_shown is = grind (arith, shown-free, with_bit, slots-released, page_used)
 
     pub kept-released : IsTaken heads frees place
         → AreStored heads (set frees a_page (with_bit a_free a_slot)) words (indexed_after sets a_page (a_head / 2) a_head a_free (with_bit a_free a_slot)) free
@@ -291,21 +241,7 @@ module _ (heads frees words : List ℕ) (sets : List Bool) (free : ℕ) (kept : 
       pub bit : has_bit a_free a_slot ≡ true
 
     free_used : (size : ℕ) → IsFreeFor (shown_table heads frees words) size place → a_head ≢ 0 → FreeUsed size
-    free_used size is used =
-        let inside = free_within size is in
-        let page_is_used : IsUsed a_page = record { inside = inside; used = used } in
-        let at = page_used a_page page_is_used in
-        let within : a_slot < length (shown_slots a_free words a_page (a_head / 2)) = subst (λ p. a_slot < length (page_for size p).slots) at is.within in
-        let in_slots : a_slot < slots_in (a_head / 2) = omega (arith, within, length-tabulate (shown_slot a_free words a_page (a_head / 2)) 0 (slots_in (a_head / 2))) in
-        record {
-          page_is_used = page_is_used;
-          same = sym (ap (λ p. (page_for size p).class_size) at) ∙ is.of_class;
-          within = in_slots;
-          bit = elim (cases_Bool (has_bit a_free a_slot)) [
-            | inl set ↦ set
-            | inr clear ↦ absurd (none-some _ (sym is.empty ∙ block_at-shown heads frees words place (record { inside = inside; used = used; within = in_slots; taken = clear })))
-          ];
-        }
+    free_used size is used = grind (arith, free_within, page_used, length-tabulate, cases_Bool, none-some, block_at-shown)
 
     -- the words at a place that is free for a class
     abbrev block_there : ℕ → List ℕ
@@ -314,15 +250,7 @@ module _ (heads frees words : List ℕ) (sets : List Bool) (free : ℕ) (kept : 
     -- A place taken in a page in use
     pub taken_shown_used : (size : ℕ) → IsFreeFor (shown_table heads frees words) size place → a_head ≢ 0
         → shown_table heads (set frees a_page (without_bit a_free a_slot)) words ≡ with_taken (shown_table heads frees words) size place (words_at (shown_table heads (set frees a_page (without_bit a_free a_slot)) words) place)
-    taken_shown_used size is used =
-        let its = free_used size is used in
-        let class = size_used a_page used in
-        told_taken (shown_table heads frees words) _ size place (block_there size) is
-        (shown-free a_page (without_bit a_free a_slot) its.page_is_used
-        ∙ ap (λ p. set (shown_table heads frees words) a_page (Some p))
-        (ap (page_of (a_head / 2) (a_head % 2 == 1)) (slots-taken heads frees words place kept.pages (a_head / 2) a_free class.few)
-        ∙ (ap (λ s. page_with a_slot (Some (block_there s)) (page_of (a_head / 2) (a_head % 2 == 1) (shown_slots a_free words a_page (a_head / 2)))) its.same
-        ∙ ap (λ p. page_with a_slot (Some (block_there size)) (page_for size p)) (sym (page_used a_page its.page_is_used)))))
+    taken_shown_used size is used = grind (arith, free_used, size_used, told_taken, shown-free, without_bit, slots-taken, page_used)
 
     pub kept-taken_used : (size : ℕ) → IsFreeFor (shown_table heads frees words) size place → a_head ≢ 0
         → AreStored heads (set frees a_page (without_bit a_free a_slot)) words (indexed_after sets a_page size a_head a_free (without_bit a_free a_slot)) free
@@ -340,17 +268,11 @@ module _ (heads frees words : List ℕ) (sets : List Bool) (free : ℕ) (kept : 
         let its = class_is size class in
         used_page_of (2 * size) (without_bit (2 ^ slots_in size - 1) a_slot) words a_page size false (λ e. absurd (omega (arith, its.least))) (omega arith) (ne_eqb _ _ (λ e. absurd (omega arith)))
         ∙ ap Some
-        (ap (page_of size false)
-        (slots-taken heads frees words place kept.pages size (2 ^ slots_in size - 1) its.few
-        ∙ ap (λ slots. set slots a_slot (Some (block_there size))) (slots-fresh heads frees words place kept.pages size))
-        ∙ ap (λ p. page_with a_slot (Some (block_there size)) (page_for size p)) (sym (page_at-shown heads frees words a_page inside ∙ free_page a_head a_free words a_page none)))
+        (grind (arith, slots-taken, slots-fresh, page_at-shown, free_page))
 
     pub taken_shown_fresh : (size : ℕ) → is_class_size size ≡ true → IsFreeFor (shown_table heads frees words) size place → a_head ≡ 0
         → shown_table (set heads a_page (2 * size)) (set frees a_page (without_bit (2 ^ slots_in size - 1) a_slot)) words ≡ with_taken (shown_table heads frees words) size place (words_at (shown_table (set heads a_page (2 * size)) (set frees a_page (without_bit (2 ^ slots_in size - 1) a_slot)) words) place)
-    taken_shown_fresh size class is none =
-        told_taken (shown_table heads frees words) _ size place (block_there size) is
-        (shown-set heads frees words a_page (2 * size) (without_bit (2 ^ slots_in size - 1) a_slot) (free_within size is) kept.sized.as_many_frees
-        ∙ ap (set (shown_table heads frees words) a_page) (fresh_page size class is none))
+    taken_shown_fresh size class is none = grind (arith, told_taken, shown-set, without_bit, free_within, fresh_page)
 
     pub kept-taken_fresh : (size : ℕ) → is_class_size size ≡ true → IsFreeFor (shown_table heads frees words) size place → a_head ≡ 0
         → AreStored (set heads a_page (2 * size)) (set frees a_page (without_bit (2 ^ slots_in size - 1) a_slot)) words (indexed_again sets a_page size (2 * size) (without_bit (2 ^ slots_in size - 1) a_slot)) (free - 1)
@@ -362,17 +284,10 @@ module _ (heads frees words : List ℕ) (sets : List Bool) (free : ℕ) (kept : 
         (λ slot past. has_bit-less (2 ^ slots_in size - 1) a_slot slot (has_bit-ones_above (slots_in size) slot (subst (λ s. slots_in s ≤ slot) half past)))
         (indexed-set heads frees sets a_page size (2 * size) (without_bit (2 ^ slots_in size - 1) a_slot) kept.indexed kept.sized.as_many_sets inside kept.sized.few_pages kept.sized.as_many_frees class (inl none) (inr half))
         (length-indexed_again sets a_page size (2 * size) (without_bit (2 ^ slots_in size - 1) a_slot))
-        (omega (
-          arith,
-          kept.free_count,
-          ap (λ p. free_pages (set (shown_table heads frees words) a_page p)) (fresh_page size class is none),
-          free_pages-taken (shown_table heads frees words) a_page (page_with a_slot (Some (block_there size)) (page_for size (page_at (shown_table heads frees words) a_page))) (omega (arith, inside, length-shown heads frees words)) (page_at-shown heads frees words a_page inside ∙ free_page a_head a_free words a_page none),
-        ))
+        (grind (arith, fresh_page, free_pages-taken, length-shown, page_at-shown, free_page))
 
     pub fresh_counted : (size : ℕ) → IsFreeFor (shown_table heads frees words) size place → a_head ≡ 0 → 0 < free
-    fresh_counted size is none =
-        let inside = free_within size is in
-        omega (arith, kept.free_count, free_pages-some (shown_table heads frees words) a_page (omega (arith, inside, length-shown heads frees words)) (page_at-shown heads frees words a_page inside ∙ free_page a_head a_free words a_page none))
+    fresh_counted size is none = grind (arith, free_within, free_pages-some, length-shown, page_at-shown, free_page)
 
 -- a place that is free for a class, told of the words
 pub free_of : (heads frees words : List ℕ) (table : Table (List ℕ)) (size place : ℕ) → shown_table heads frees words ≡ table → IsFreeFor table size place → IsFreeFor (shown_table heads frees words) size place

@@ -13,5 +13,3 @@ pub mod KeptLemmas
 pub mod TakenLemmas
 pub mod CopyLemmas
 pub mod HeaderLemmas
-pub mod OfBits
-pub mod OfClasses

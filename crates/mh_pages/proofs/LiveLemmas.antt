@@ -1,11 +1,10 @@
 -- How many blocks a page has, by how many bits of its word of free slots are set.
 use Rattle.std.proofs.Common.{◌≡◌, ◌≢◌, ℕ, zero, suc, ◌+◌, ◌*◌, ◌/◌, ◌%◌, ◌^◌, ◌<◌, ◌≤◌, ◌==◌, not, false, inl, inr, List, ◌∷◌, Option, Some, None, is_some, option_map, unwrap_or, refl, ap, ◌∙◌, sym, subst, arith}
-use Rattle.std.specs.Int.Count.{ones, ones-ones}
 use Rattle.std.proofs.lemmas.Bool.{cases_Bool, eqb-true, not-true, not-false}
 use Rattle.std.proofs.lemmas.Nat.{ones_cat, shr-shr, shr_split, shr_below, mod_below, pow_pos}
 use Rattle.std.proofs.lemmas.Nat.Bits.{bit_at-suc, bit_at-zero, bit_at_lowest, same_from_bits}
-use Rattle.mh_model.specs.Classes.{tabulate, slots_in}
-use Rattle.mh_model.specs.Pages.{block_count, live_in}
+use Rattle.std.specs.Int.Count.{ones, ones-ones}
+use Rattle.mh_model.specs.{Classes.{tabulate, slots_in}, Pages.{block_count, live_in}}
 use Rattle.mh_bits.specs.Bits.{has_bit}
 use Rattle.mh_bits.proofs.BitLemmas.{bit_clear}
 use Rattle.mh_pages.specs.Shown.{shown_slot, shown_page}
@@ -15,10 +14,8 @@ use Rattle.mh_pages.proofs.ShownLemmas.{free_page, used_page, empty-slot_shown, 
 pub small_word : (n k : ℕ) → ((i : ℕ) → k ≤ i → has_bit n i ≡ false) → n < 2 ^ k
 small_word n k none =
     let high : n / 2 ^ k ≡ 0 = same_from_bits (n / 2 ^ k) 0 (λ i. ap (λ m. m % 2) (shr-shr n k i) ∙ (bit_clear n (k + i) (none (k + i) (omega arith)) ∙ sym (bit_at-zero i))) in
-    let split = shr_split n k in
-    let below = mod_below n (2 ^ k) (pow_pos k) in
     let none_high : n / 2 ^ k * 2 ^ k ≡ 0 = ap (λ q. q * 2 ^ k) high ∙ omega arith in
-    omega (arith, split, below, none_high)
+    omega (arith, mod_below n (2 ^ k) (pow_pos k), none_high)
 
 ones_none : ones 0 ≡ 0
 ones_none = ones-ones 0
@@ -42,12 +39,7 @@ counted {X = X} f first (suc n) free each small =
     lowest = ap (λ k. is_some (f k)) (omega arith) ∙ each 0 (omega arith)
 
     go : (o : Option X) → f first ≡ o → block_count (tabulate f (suc first) n) + ones (free / 2) ≡ n → block_count (tabulate f first (suc n)) + ones free ≡ suc n
-    go None e tail =
-        let odd : free % 2 ≡ 1 = sym (bit_at_lowest free) ∙ eqb-true _ _ (not-false _ (sym lowest ∙ ap is_some e)) in
-        omega (arith, ap (λ o. block_count (o ∷ tabulate f (suc first) n)) e, tail, split, ap ones odd, ones_one)
-    go (Some x) e tail =
-        let even : free % 2 ≡ 0 = sym (bit_at_lowest free) ∙ bit_clear free 0 (not-true _ (sym lowest ∙ ap is_some e)) in
-        omega (arith, ap (λ o. block_count (o ∷ tabulate f (suc first) n)) e, tail, split, ap ones even, ones_none)
+    go o e tail = grind (arith, bit_at_lowest, eqb-true, not-false, lowest, split, ones_one, bit_clear, not-true, ones_none)
 
 -- The blocks of a page are its slots that aren't free
 pub live-shown : (head free : ℕ) (words : List ℕ) (number : ℕ) → head ≢ 0 → ((slot : ℕ) → slots_in (head / 2) ≤ slot → has_bit free slot ≡ false)
@@ -55,11 +47,8 @@ pub live-shown : (head free : ℕ) (words : List ℕ) (number : ℕ) → head �
 live-shown head free words number used none =
     ap (λ p. unwrap_or (option_map live_in p) 0 + ones free) (used_page head free words number used)
     ∙ counted (shown_slot free words number (head / 2)) 0 (slots_in (head / 2)) free
-    (λ i l. elim (cases_Bool (has_bit free i)) [
-      | inl is ↦ ap is_some (ap (shown_slot free words number (head / 2)) (omega arith) ∙ empty-slot_shown free words number (head / 2) i is) ∙ ap not (sym is)
-      | inr is ↦ ap is_some (ap (shown_slot free words number (head / 2)) (omega arith) ∙ taken-slot_shown free words number (head / 2) i is) ∙ ap not (sym is)
-    ])
+    (grind arith)
     (small_word free (slots_in (head / 2)) none)
 
 pub live-free : (head free : ℕ) (words : List ℕ) (number : ℕ) → head ≡ 0 → unwrap_or (option_map live_in (shown_page head free words number)) 0 ≡ 0
-live-free head free words number none = ap (λ p. unwrap_or (option_map live_in p) 0) (free_page head free words number none)
+live-free head free words number none = grind arith

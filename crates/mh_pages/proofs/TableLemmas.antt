@@ -1,8 +1,7 @@
 -- What tables of any blocks do: one block less, and the classes of pages if a place is taken.
 use Rattle.std.proofs.Common.{◌≡◌, ℕ, ◌+◌, ◌<◌, inl, inr, Option, Some, None, is_some, IsSome, option_map, option_and_then, unwrap_or, length, refl, ap, ◌∙◌, sym, arith, get_or-set_same, get_or-set_other}
 use Rattle.std.proofs.lemmas.Bool.{cases_eq, false≢true}
-use Rattle.mh_table_laws.proofs.Lists.{there_below}
-use Rattle.mh_table_laws.proofs.placing.Places.{taken_page, block_count-removed}
+use Rattle.mh_table_laws.proofs.{Lists.there_below, placing.Places.{taken_page, block_count-removed}}
 use Rattle.mh_model.specs.Pages.{Page, Table, page_number, slot_number, page_at, block_in, block_at, live_in, count_at, class_at, page_with, page_for, with_block, with_taken, IsFreeFor}
 
 module _ {X : Type 0} where
@@ -20,20 +19,14 @@ module _ {X : Type 0} where
   page_of_block table place some = go (page_at table (page_number place)) refl
     where
       go : (o : Option (Page X)) → page_at table (page_number place) ≡ o → HasPage table place
-      go None e = absurd (false≢true (sym (ap (λ p. is_some (option_and_then (block_in (slot_number place)) p)) e) ∙ some))
+      go None e = grind arith
       go (Some page) e =
           let there : IsSome (block_in (slot_number place) page) = sym (ap (λ p. is_some (option_and_then (block_in (slot_number place)) p)) e) ∙ some in
-          record {
-            page = page;
-            is = e;
-            inside = there_below table (page_number place) (ap is_some e);
-            within = there_below page.slots (slot_number place) there;
-            there = there;
-          }
+          grind (arith, there_below table (page_number place) (ap is_some e), there_below page.slots (slot_number place) there)
 
   -- the page of a place after a change of its content
   pub page_after : (table : Table X) (place : ℕ) (content : Option X) (has : HasPage table place) → page_at (with_block table place content) (page_number place) ≡ Some (page_with (slot_number place) content has.page)
-  page_after table place content has = get_or-set_same table (page_number place) _ None has.inside ∙ ap (option_map (page_with (slot_number place) content)) has.is
+  page_after table place content has = grind (arith, get_or-set_same)
 
   -- A page has one block less after one was taken away
   pub count_after : (table : Table X) (place : ℕ) → IsSome (block_at table place) → count_at (with_block table place None) (page_number place) + 1 ≡ count_at table (page_number place)
@@ -44,18 +37,8 @@ module _ {X : Type 0} where
   -- Places taken ---------------------------------------------------------------------------------
 
   pub class_taken : (table : Table X) (size place : ℕ) (block : X) → IsFreeFor table size place → class_at (with_taken table size place block) (page_number place) ≡ Some size
-  class_taken table size place block is = ap (option_map (λ used. used.class_size)) (taken_page table size place block is) ∙ ap Some is.of_class
+  class_taken table size place block is = grind (arith, taken_page)
 
   -- a page in use keeps its class as a place is taken in another, and in it too
   pub other_class : (table : Table X) (size place : ℕ) (block : X) (other : ℕ) → IsFreeFor table size place → IsSome (page_at table other) → class_at (with_taken table size place block) other ≡ class_at table other
-  other_class table size place block other is some = elim (cases_eq other (page_number place)) [
-    | inr apart ↦ ap (option_map (λ used. used.class_size)) (get_or-set_other table (page_number place) other _ None apart)
-    | inl here ↦ go (page_at table other) refl here
-  ]
-    where
-      go : (o : Option (Page X)) → page_at table other ≡ o → other ≡ page_number place → class_at (with_taken table size place block) other ≡ class_at table other
-      go None e here = absurd (false≢true (sym (ap is_some e) ∙ some))
-      go (Some page) e here =
-          ap (class_at (with_taken table size place block)) here
-          ∙ (ap (option_map (λ used. used.class_size)) (taken_page table size place block is)
-          ∙ (ap (λ p. Some (page_for size p).class_size) (ap (page_at table) (sym here) ∙ e) ∙ sym (ap (option_map (λ used. used.class_size)) e)))
+  other_class table size place block other is some = grind (arith, cases_eq, get_or-set_other, false≢true, taken_page)

@@ -3,12 +3,9 @@ use Rattle.std.proofs.Common.{◌≡◌, ℕ, ◌+◌, ◌*◌, ◌/◌, ◌≤�
 use Rattle.std.proofs.lemmas.Option.{same_Some}
 use Rattle.mh_model.specs.Pages.{Table, page_number, slot_number, block_at, class_at, with_block, with_taken, IsFreeFor}
 use Rattle.mh_bits.specs.Bits.{IsZeroed}
-use Rattle.mh_pages.specs.Shown.{shown_table}
-use Rattle.mh_pages.specs.Kept.{AreStored}
+use Rattle.mh_pages.specs.{Shown.shown_table, Kept.AreStored}
 use Rattle.mh_table_laws.proofs.placing.Places.{block_at-with_taken_same, with_block-with_taken}
-use Rattle.mh_pages.proofs.TableLemmas.{class_taken}
-use Rattle.mh_pages.proofs.ShownLemmas.{IsTaken}
-use Rattle.mh_pages.proofs.WriteLemmas.{shown-zeroed, zeroed_inside}
+use Rattle.mh_pages.proofs.{TableLemmas.class_taken, ShownLemmas.IsTaken, WriteLemmas.{shown-zeroed, zeroed_inside}}
 use Rattle.mh_pages.proofs.KeptLemmas.{start, start_few, block_of, class_shown, kept-block}
 
 -- the words of a place with a block are as many as its page's class
@@ -30,13 +27,10 @@ module _ (heads frees words : List ℕ) (sets : List Bool) (free : ℕ) (kept : 
 
   module _ (new : List ℕ) (zeroed : IsZeroed words new (256 * page_number place + slot_number place * (get_or heads (page_number place) 0 / 2)) (256 * page_number place + slot_number place * (get_or heads (page_number place) 0 / 2) + size)) where
     of_its_size : IsZeroed words new (start heads frees words sets free kept place) (start heads frees words sets free kept place + get_or heads (page_number place) 0 / 2)
-    of_its_size = subst (λ s. IsZeroed words new (start heads frees words sets free kept place) (start heads frees words sets free kept place + s)) (sym size_taken) zeroed
+    of_its_size = grind (arith, start, size_taken)
 
     pub kept-cleared : AreStored heads frees new sets free
     kept-cleared = kept-block heads frees words sets free kept place new place_taken (zeroed_inside words new _ _ of_its_size)
 
     pub cleared_shown : shown_table heads frees new ≡ with_taken old size place (replicate size 0)
-    cleared_shown =
-        shown-zeroed heads frees words place kept.pages new place_taken of_its_size
-        ∙ (ap (λ s. with_block (shown_table heads frees words) place (Some (replicate s 0))) size_taken
-        ∙ (ap (λ t. with_block t place (Some (replicate size 0))) (shown ∙ taken) ∙ with_block-with_taken old size place block (replicate size 0) is))
+    cleared_shown = grind (arith, shown-zeroed, place_taken, of_its_size, size_taken, with_block-with_taken)

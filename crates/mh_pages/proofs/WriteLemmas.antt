@@ -1,54 +1,34 @@
 -- What the words show after each change: a block written, a place taken or given back.
 use Rattle.std.proofs.Common.{◌≡◌, ◌≢◌, ℕ, suc, ◌+◌, ◌-◌, ◌*◌, ◌/◌, ◌%◌, ◌^◌, ◌<◌, ◌≤◌, ◌==◌, ◌⊎◌, inl, inr, Option, Some, None, option_map, List, length, get_or, set, replicate, refl, ap, ◌∙◌, sym, arith, get_or-set_same, get_or-set_other}
-use Rattle.std.proofs.lemmas.Bool.{cases_lt}
-use Rattle.std.proofs.lemmas.List.{length-set}
-use Rattle.std.proofs.Math.Nat.{mul-le-mul_left, mul-le-mul_right}
-use Rattle.mh_model.specs.Classes.{slots_in}
-use Rattle.mh_model.specs.Pages.{Table, page_with, with_block}
+use Rattle.std.proofs.{lemmas.Bool.cases_lt, lemmas.List.length-set, Math.Nat.{mul-le-mul_left, mul-le-mul_right}}
+use Rattle.mh_model.specs.{Classes.slots_in, Pages.{Table, page_with, with_block}}
 use Rattle.mh_model.proofs.TabulateLemmas.{tabulate_same, tabulate-set, tabulate-replicate}
 use Rattle.mh_bits.specs.Bits.{IsZeroed}
 use Rattle.mh_bits.proofs.BitLemmas.{has_bit-ones, has_bit-set_same, has_bit-set_other, has_bit-clear_same, has_bit-clear_other}
 use Rattle.mh_bits.proofs.SetLemmas.{with_bit, without_bit}
 use Rattle.mh_classes.proofs.ClassLemmas.{IsClass}
-use Rattle.mh_pages.specs.Shown.{words_from, shown_slot, shown_slots, page_of, shown_table}
-use Rattle.mh_pages.specs.Words.{with_word}
+use Rattle.mh_pages.specs.{Shown.{words_from, shown_slot, shown_slots, page_of, shown_table}, Words.with_word}
 use Rattle.mh_pages.specs.Kept.{ArePages, AgreeOutside, IsCopied}
 use Rattle.mh_pages.proofs.ShownLemmas.{page_at-shown, head_class, used_page, empty-slot_shown, taken-slot_shown, shown-words, slots-set, slot-same, IsTaken, block_at-shown}
 
 -- a slot ends before a later one begins
 pub slot_before : (size slot other i : ℕ) → slot < other → i < size → slot * size + i < other * size
-slot_before size slot other i less small =
-    let rows : suc slot * size ≤ other * size = mul-le-mul_right size less in
-    omega (arith, rows)
+slot_before size slot other i less small = grind arith
 
 -- a slot lies in its page
 pub slot_fits : (size slot : ℕ) → IsClass size → slot < slots_in size → slot * size + size ≤ 256
-slot_fits size slot class within =
-    let row : suc slot * size ≤ slots_in size * size = mul-le-mul_right size within in
-    omega (arith, row, class.fit)
+slot_fits size slot class within = grind arith
 
 -- and what lies in its page is a slot of it
 pub fits_slot : (size slot : ℕ) → 0 < size → (slot + 1) * size ≤ 256 → slot < slots_in size
-fits_slot size slot some fits = go (256 / size) (256 % size) (omega arith) (omega arith)
-  where
-    go : (q r : ℕ) → size * q + r ≡ 256 → r < size → slot < q
-    go q r split less = elim (cases_lt slot q) [
-      | inl below ↦ below
-      | inr above ↦
-          let rows : size * q ≤ size * slot = mul-le-mul_left size above in
-          absurd (omega (arith, rows))
-    ]
+fits_slot size slot some fits = grind arith
 
 -- the words from one on to before another set to 0, or one of them written
 pub zeroed_inside : (old new : List ℕ) (first end : ℕ) → IsZeroed old new first end → AgreeOutside old new first end
 zeroed_inside old new first end is = record { lengths = is.lengths; before = is.before; after = is.after }
 
 pub written_inside : (words : List ℕ) (at word first end : ℕ) → first ≤ at → at < end → AgreeOutside words (set words at word) first end
-written_inside words at word first end from under = record {
-  lengths = length-set words at word;
-  before = λ i l. get_or-set_other words at i word 0 (λ e. omega arith);
-  after = λ i l. get_or-set_other words at i word 0 (λ e. omega arith);
-}
+written_inside words at word first end from under = grind (arith, length-set, get_or-set_other)
 
 module _ (heads frees words : List ℕ) (place : ℕ) (are : ArePages heads frees) where
   abbrev pub the_page : ℕ
@@ -71,14 +51,13 @@ module _ (heads frees words : List ℕ) (place : ℕ) (are : ArePages heads free
 
   -- the block of a place that is taken lies in its page
   pub block_fits : IsTaken heads frees place → the_slot * the_size + the_size ≤ 256
-  block_fits is = slot_fits the_size the_slot (head_class the_head (are.are_heads the_page) is.used) is.within
+  block_fits is = grind arith
 
   -- the table with another content of the slot, if its page is in use
   pub with_slot : (content : Option (List ℕ)) (new_table : Table (List ℕ)) → the_page < length heads → the_head ≢ 0
       → new_table ≡ set (shown_table heads frees words) the_page (Some (page_with the_slot content (page_of the_size (the_head % 2 == 1) (shown_slots the_free words the_page the_size))))
       → new_table ≡ with_block (shown_table heads frees words) place content
-  with_slot content new_table inside used e =
-      e ∙ ap (λ page. set (shown_table heads frees words) the_page (option_map (page_with the_slot content) page)) (sym (page_at-shown heads frees words the_page inside ∙ used_page the_head the_free words the_page used))
+  with_slot content new_table inside used e = grind (arith, page_at-shown, used_page)
 
   -- Words of a block written
   pub shown-block : (new : List ℕ) → IsTaken heads frees place → AgreeOutside words new the_start (the_start + the_size)
@@ -87,11 +66,7 @@ module _ (heads frees words : List ℕ) (place : ℕ) (are : ArePages heads free
       with_slot _ _ is.inside is.used
       (shown-words heads frees words new the_page are.are_heads (λ other apart i a b. other_page other i apart a b (cases_lt i the_start))
       ∙ ap (set (shown_table heads frees words) the_page)
-      (used_page the_head the_free new the_page is.used
-      ∙ ap (λ slots. Some (page_of the_size (the_head % 2 == 1) slots))
-      (slots-set the_free the_free words new the_page the_size the_slot (Some (words_from new the_start the_size))
-      (λ other within apart. slot-same the_free the_free words new the_page the_size other refl (λ i small. other_slot other i apart small (cases_lt other the_slot)))
-      (λ within. taken-slot_shown the_free new the_page the_size the_slot is.taken))))
+      (grind (arith, used_page, slots-set, slot-same, other_slot, cases_lt, taken-slot_shown)))
     where
       other_page : (other i : ℕ) → other ≢ the_page → 256 * other ≤ i → i < 256 * other + 256 → (i < the_start) ⊎ (the_start ≤ i) → get_or new i 0 ≡ get_or words i 0
       other_page other i apart a b (inl before) = agree.before i before
@@ -109,53 +84,32 @@ module _ (heads frees words : List ℕ) (place : ℕ) (are : ArePages heads free
   shown-word index word all is small =
       shown-block (set words (the_start + index) word) is (written_inside words (the_start + index) word the_start (the_start + the_size) (omega arith) (omega arith))
       ∙ ap (with_block (shown_table heads frees words) place)
-      (ap Some (go the_start refl)
-      ∙ ap (option_map (λ block. set block index word)) (sym (block_at-shown heads frees words place is)))
+      (grind (arith, go, block_at-shown))
     where
       go : (start : ℕ) → the_start ≡ start → words_from (set words (start + index) word) start the_size ≡ set (words_from words start the_size) index word
-      go start is_start =
-          tabulate-set (λ i. get_or words (start + i) 0) (λ i. get_or (set words (start + index) word) (start + i) 0) 0 the_size index word
-          (λ i a b apart. get_or-set_other words (start + index) (start + i) word 0 (λ e. apart (omega arith)))
-          (λ h. ap (λ k. get_or (set words (start + index) word) k 0) (omega arith) ∙ get_or-set_same words (start + index) word 0 (omega (arith, all, is.inside, is_start, block_fits is, small)))
+      go start is_start = grind (arith, tabulate-set, get_or-set_other, get_or-set_same, block_fits)
 
   -- A block copied over another
   pub shown-copied : (new : List ℕ) (source : ℕ) → IsTaken heads frees place → IsCopied words new source the_start the_size
       → shown_table heads frees new ≡ with_block (shown_table heads frees words) place (Some (words_from words source the_size))
-  shown-copied new source is copied =
-      shown-block new is copied.others
-      ∙ ap (λ block. with_block (shown_table heads frees words) place (Some block))
-      (copy_same the_start refl)
-    where
-      copy_same : (start : ℕ) → the_start ≡ start → words_from new start the_size ≡ words_from words source the_size
-      copy_same start e = tabulate_same (λ i. get_or new (start + i) 0) (λ i. get_or words (source + i) 0) 0 the_size (λ i a b. ap (λ k. get_or new (k + i) 0) (sym e) ∙ copied.copied i (omega arith))
+  shown-copied new source is copied = grind (arith, shown-block, tabulate_same)
 
   -- A block whose words are set to 0
   pub shown-zeroed : (new : List ℕ) → IsTaken heads frees place → IsZeroed words new the_start (the_start + the_size)
       → shown_table heads frees new ≡ with_block (shown_table heads frees words) place (Some (replicate the_size 0))
-  shown-zeroed new is zeroed =
-      shown-block new is (zeroed_inside words new the_start (the_start + the_size) zeroed)
-      ∙ ap (λ block. with_block (shown_table heads frees words) place (Some block))
-      (tabulate-replicate (λ i. get_or new (the_start + i) 0) 0 the_size 0 (λ i a b. zeroed.zeros (the_start + i) (omega arith) (omega arith)))
+  shown-zeroed new is zeroed = grind (arith, shown-block, zeroed_inside, tabulate-replicate)
 
   -- What a page shows ------------------------------------------------------------------------------
 
   -- one bit of the word of free slots set
   pub slots-released : shown_slots (with_bit the_free the_slot) words the_page the_size ≡ set (shown_slots the_free words the_page the_size) the_slot None
-  slots-released =
-      slots-set the_free (with_bit the_free the_slot) words words the_page the_size the_slot None
-      (λ other within apart. slot-same the_free (with_bit the_free the_slot) words words the_page the_size other (has_bit-set_other the_free the_slot other (omega arith) apart) (λ i small. refl))
-      (λ within. empty-slot_shown (with_bit the_free the_slot) words the_page the_size the_slot (has_bit-set_same the_free the_slot (omega arith)))
+  slots-released = grind (arith, slots-set, with_bit, slot-same, has_bit-set_other, empty-slot_shown, has_bit-set_same)
 
   -- one bit cleared
   pub slots-taken : (size old_free : ℕ) → slots_in size ≤ 64
       → shown_slots (without_bit old_free the_slot) words the_page size ≡ set (shown_slots old_free words the_page size) the_slot (Some (words_from words (256 * the_page + the_slot * size) size))
-  slots-taken size old_free few =
-      slots-set old_free (without_bit old_free the_slot) words words the_page size the_slot (Some (words_from words (256 * the_page + the_slot * size) size))
-      (λ other within apart. slot-same old_free (without_bit old_free the_slot) words words the_page size other (has_bit-clear_other old_free the_slot other (omega arith) (omega (arith, within, few)) apart) (λ i small. refl))
-      (λ within. taken-slot_shown (without_bit old_free the_slot) words the_page size the_slot (has_bit-clear_same old_free the_slot (omega arith)))
+  slots-taken size old_free few = grind (arith, slots-set, without_bit, slot-same, has_bit-clear_other, taken-slot_shown, has_bit-clear_same)
 
   -- the slots of a page for a class that was free
   pub slots-fresh : (size : ℕ) → shown_slots (2 ^ slots_in size - 1) words the_page size ≡ replicate (slots_in size) None
-  slots-fresh size =
-      tabulate-replicate (shown_slot (2 ^ slots_in size - 1) words the_page size) 0 (slots_in size) None
-      (λ i a b. empty-slot_shown (2 ^ slots_in size - 1) words the_page size i (has_bit-ones (slots_in size) i (omega arith)))
+  slots-fresh size = grind (arith, tabulate-replicate, empty-slot_shown, has_bit-ones)

@@ -1,7 +1,6 @@
 -- How many places are free for a class.
 use Rattle.std.specs.Prelude.{ℕ, suc, ◌+◌, ◌==◌, if◌then◌else◌, Option, Some, None, List, [], ◌∷◌}
-use Rattle.mh_model.specs.Classes.{slots_in}
-use Rattle.mh_model.specs.Pages.{Page, Table}
+use Rattle.mh_model.specs.{Classes.slots_in, Pages.{Page, Table}}
 
 module _ {X : Type 0} where
   -- how many of these slots have no block

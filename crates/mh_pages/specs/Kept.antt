@@ -1,10 +1,8 @@
 -- What pages keep: the invariant of `Pages`, and words of private functions. No public contract names them.
 use Rattle.std.specs.Prelude.{◌≡◌, ◌≤◌, ◌<◌, ◌⊎◌, ℕ, ◌+◌, ◌*◌, ◌/◌, ◌==◌, ◌||◌, Bool, true, false, List, length, get_or}
-use Rattle.mh_model.specs.Classes.{is_class_size, slots_in}
-use Rattle.mh_model.specs.Pages.{free_pages}
+use Rattle.mh_model.specs.{Classes.{is_class_size, slots_in}, Pages.free_pages}
 use Rattle.mh_bits.specs.Bits.{has_bit}
-use Rattle.mh_pages.specs.Shown.{shown_table}
-use Rattle.mh_pages.specs.Indexed.{IsIndexed}
+use Rattle.mh_pages.specs.{Shown.shown_table, Indexed.IsIndexed}
 
 -- a head is 0, or has a class
 abbrev pub is_head : ℕ → Bool

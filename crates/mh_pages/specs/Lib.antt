@@ -4,5 +4,3 @@ pub mod Shown
 pub mod Indexed
 pub mod Kept
 pub mod FreePlaces
-pub mod OfBits
-pub mod OfClasses

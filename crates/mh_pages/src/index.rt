@@ -4,7 +4,7 @@ ghost use Rattle.std.specs.Prelude.{◌≡◌, ◌<◌, ◌≤◌, ◌*◌, ◌+
 ghost use Rattle.mh_classes.specs.Numbers.{class_number};
 ghost use Rattle.mh_pages.specs.Indexed.{indexed_again, indexed_after, AllFree, HasLengthsFor};
 
-use mh_bits::counted::{Counted, Tally};
+use mh_bits::counted::{Counted, ReadCount};
 use mh_bits::page_sets::PageSets;
 use mh_classes::class::Class;
 
@@ -82,7 +82,7 @@ pub fn change_free(
     ensures frees { frees.new ≡ set frees.old page free }
     ensures sets { sets.new ≡ indexed_after sets.old page class (get_or heads.now page 0) (get_or frees.old page 0) free }
 {
-    let mut tally = Tally::new();
+    let mut tally = ReadCount::new();
     let before = frees.read(page, &mut tally);
     frees.write(page, free);
     if before == 0 || free == 0 {

@@ -9,9 +9,6 @@
 //! the places that are free for a class. `KeptLemmas` has for each call what it keeps and what it shows.
 #![tactic(auto)]
 
-pub use mh_bits;
-pub use mh_classes;
-
 pub mod address;
 pub mod header;
 mod index;

@@ -23,16 +23,14 @@ ghost use Rattle.std.specs.Prelude.{ℕ, ◌≡◌, ◌<◌, ◌≤◌, ◌*◌,
 ghost use Rattle.mh_bits.specs.Bits.{has_bit};
 ghost use Rattle.mh_model.specs.Classes.{is_class_size, slots_in};
 ghost use Rattle.mh_model.specs.Pages.{HaveTheirSlots, IsFreeFor, block_at, class_at, count_at, flag_at, free_pages, fresh_slot, has_denser, is_sparse, least, least_dense_place, least_place, open_slot, page_at, page_number, slot_number, with_block, with_flag, with_released, with_taken};
-ghost use Rattle.mh_pages.specs.Addresses.{address_in};
-ghost use Rattle.mh_pages.specs.FreePlaces.{free_in, free_places};
-ghost use Rattle.mh_pages.specs.Kept.{AreApart, IsCopied};
+ghost use Rattle.mh_pages.specs.{Addresses.address_in, FreePlaces.{free_in, free_places}, Kept.{AreApart, IsCopied}};
 ghost use Rattle.mh_pages.specs.Words.{header_at, with_header, with_word, words_at};
 
 use crate::address::Address;
 use crate::header::{BIRTH, COUNTS, FORWARD, Header, STAMP};
 use crate::index::{DENSE, FREE, ROOMY, SPARSE, change, change_free, put_all};
 use crate::warmth::Warmth;
-use mh_bits::counted::{Counted, Tally};
+use mh_bits::counted::{Counted, ReadCount};
 use mh_bits::page_sets::PageSets;
 use mh_classes::class::Class;
 use mh_model::limits::{PAGE_WORDS, PLACES};
@@ -56,8 +54,7 @@ pub struct Pages {
 impl Model for Pages {
     ghost use Rattle.std.specs.Prelude.{List, ℕ};
     ghost use Rattle.mh_model.specs.Pages.{Table};
-    ghost use Rattle.mh_pages.specs.Shown.{shown_table};
-    ghost use Rattle.mh_pages.specs.Kept.{AreStored};
+    ghost use Rattle.mh_pages.specs.{Shown.shown_table, Kept.AreStored};
 
     ghost Value = { Table (List ℕ) };
 
@@ -88,7 +85,7 @@ fn start_of(heads: &Counted, place: Place) -> usize
     requires class { get_or heads.now (page_number place) 0 / 2 ≤ 64 }
     ensures { result ≡ 256 * page_number place + slot_number place * (get_or heads.now (page_number place) 0 / 2) }
 {
-    let mut tally = Tally::new();
+    let mut tally = ReadCount::new();
     let size = heads.read(place.page(), &mut tally) as usize / 2;
     PAGE_WORDS * place.page() + place.slot() * size
 }
@@ -102,7 +99,7 @@ fn copy_words(words: &mut Counted, source: usize, first: usize, count: usize)
     ensures { IsCopied words.old words.new source first count }
 {
     for index in 0..count {
-        let mut tally = Tally::new();
+        let mut tally = ReadCount::new();
         let word = words.read(source + index, &mut tally);
         words.write(first + index, word);
     }
@@ -138,7 +135,7 @@ impl Pages {
     pub fn warm(&self, word: usize, warmth: &mut Warmth)
         ensures { warmth.new ≡ warmth.old }
     {
-        let mut tally = Tally::new();
+        let mut tally = ReadCount::new();
         if word < self.words.len() {
             warmth.add(self.words.read(word, &mut tally));
         }
@@ -147,7 +144,7 @@ impl Pages {
     // The least place ----------------------------------------------------------------------------
 
     /// The first tier: the least free place in the unflagged pages of a class.
-    fn least_dense(&self, class: Class, tally: &mut Tally) -> Option<Place>
+    fn least_dense(&self, class: Class, tally: &mut ReadCount) -> Option<Place>
         requires { tally.old < 2 ^ 60 }
         ensures place { result ≡ least_dense_place self.now class }
         ensures free { IfSome result (IsFreeFor self.now class) }
@@ -162,7 +159,7 @@ impl Pages {
     }
 
     /// The second tier: the first slot of the least free page.
-    fn least_fresh(&self, class: Class, tally: &mut Tally) -> Option<Place>
+    fn least_fresh(&self, class: Class, tally: &mut ReadCount) -> Option<Place>
         requires { tally.old < 2 ^ 60 }
         ensures place { result ≡ least fresh_slot self.now }
         ensures free { IfSome result (IsFreeFor self.now class) }
@@ -176,7 +173,7 @@ impl Pages {
     }
 
     /// The third tier: the least free place in the flagged pages of a class.
-    fn least_sparse(&self, class: Class, tally: &mut Tally) -> Option<Place>
+    fn least_sparse(&self, class: Class, tally: &mut ReadCount) -> Option<Place>
         requires { tally.old < 2 ^ 60 }
         ensures place { result ≡ least (open_slot (is_sparse class)) self.now }
         ensures free { IfSome result (IsFreeFor self.now class) }
@@ -196,7 +193,7 @@ impl Pages {
         ensures free { IfSome result.0 (IsFreeFor self.now class) }
         ensures few { result.1 ≤ 5 }
     {
-        let mut tally = Tally::new();
+        let mut tally = ReadCount::new();
         if let Some(place) = self.least_dense(class, &mut tally) {
             return (Some(place), tally.reads());
         }
@@ -220,7 +217,7 @@ impl Pages {
         ensures place { result ≡ least_dense_place self.now class }
         ensures free { IfSome result (IsFreeFor self.now class) }
     {
-        let mut tally = Tally::new();
+        let mut tally = ReadCount::new();
         self.least_dense(class, &mut tally)
     }
 
@@ -228,7 +225,7 @@ impl Pages {
     pub fn has_denser(&self, page: usize, class: Class) -> bool
         ensures { result ≡ has_denser self.now page class }
     {
-        let mut tally = Tally::new();
+        let mut tally = ReadCount::new();
         self.sets
             .has_lower(3 * class.number() + DENSE, page, &mut tally)
     }
@@ -242,7 +239,7 @@ impl Pages {
     {
         let page = place.page();
         let slot = 1 << place.slot();
-        let mut tally = Tally::new();
+        let mut tally = ReadCount::new();
         let head = self.heads.read(page, &mut tally);
         if head == 0 {
             self.free -= 1;
@@ -298,7 +295,7 @@ impl Pages {
         ensures { self.new ≡ with_block self.old place None }
     {
         let page = place.page();
-        let mut tally = Tally::new();
+        let mut tally = ReadCount::new();
         let head = self.heads.read(page, &mut tally);
         let before = self.frees.read(page, &mut tally);
         let class = class_of_head(head);
@@ -330,7 +327,7 @@ impl Pages {
         requires empty { count_at self.old page ≡ 0 }
         ensures { self.new ≡ set self.old page None }
     {
-        let mut tally = Tally::new();
+        let mut tally = ReadCount::new();
         let class = class_of_head(self.heads.read(page, &mut tally));
         self.free += 1;
         change(
@@ -354,7 +351,7 @@ impl Pages {
         if self.is_flagged(page) == is_flagged {
             return;
         }
-        let mut tally = Tally::new();
+        let mut tally = ReadCount::new();
         let head = self.heads.read(page, &mut tally);
         let free = self.frees.read(page, &mut tally);
         let class = class_of_head(head);
@@ -390,7 +387,7 @@ impl Pages {
         requires { page < length self.now }
         ensures { result ≡ class_at self.now page }
     {
-        let mut tally = Tally::new();
+        let mut tally = ReadCount::new();
         let head = self.heads.read(page, &mut tally);
         if head == 0 {
             return None;
@@ -403,7 +400,7 @@ impl Pages {
         requires { page < length self.now }
         ensures { result ≡ flag_at self.now page }
     {
-        let mut tally = Tally::new();
+        let mut tally = ReadCount::new();
         self.heads.read(page, &mut tally) % 2 == 1
     }
 
@@ -413,7 +410,7 @@ impl Pages {
         ensures count { result ≡ count_at self.now page }
         ensures few { result ≤ 64 }
     {
-        let mut tally = Tally::new();
+        let mut tally = ReadCount::new();
         let head = self.heads.read(page, &mut tally);
         if head == 0 {
             return 0;
@@ -426,7 +423,7 @@ impl Pages {
         requires { page < length self.now }
         ensures { (slot : ℕ) → slot < 64 → has_bit result slot ≡ is_some (block_at self.now (64 * page + slot)) }
     {
-        let mut tally = Tally::new();
+        let mut tally = ReadCount::new();
         let head = self.heads.read(page, &mut tally);
         if head == 0 {
             return 0;
@@ -448,7 +445,7 @@ impl Pages {
         ensures count { result ≡ free_in class (page_at self.now page) }
         ensures few { result ≤ 64 }
     {
-        let mut tally = Tally::new();
+        let mut tally = ReadCount::new();
         let head = self.heads.read(page, &mut tally);
         if head == 0 {
             return class.slots();
@@ -481,7 +478,7 @@ impl Pages {
         if page >= self.heads.len() {
             return false;
         }
-        let mut tally = Tally::new();
+        let mut tally = ReadCount::new();
         let head = self.heads.read(page, &mut tally);
         if head == 0 {
             return false;
@@ -508,7 +505,7 @@ impl Pages {
         requires within { index < length (words_at self.now address.place) }
         ensures { result ≡ get_or (words_at self.now address.place) index 0 }
     {
-        let mut tally = Tally::new();
+        let mut tally = ReadCount::new();
         self.words.read(address.word + index, &mut tally)
     }
 

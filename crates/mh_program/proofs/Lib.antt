@@ -1,2 +1,2 @@
-pub mod TellingLemmas
 pub mod SizeLemmas
+pub mod TellingLemmas

@@ -1,14 +1,11 @@
 -- What is written of a size is a text of its kind.
 use Rattle.std.proofs.Common.{◌≡◌, Bool, true, false, sym, subst}
-use Rattle.std.specs.Prelude.{IfOk, OnErr, Result, Ok, Err}
-use Rattle.std.specs.String.{string_bytes}
-use Rattle.mh_live.specs.OfScript.Run.{Device}
-use Rattle.mh_live.specs.OfScript.ScriptFault.{ScriptFault}
-use Rattle.mh_live.specs.OfScript.ScriptFault.TheVariants.{Write, NoMemory}
+use Rattle.std.specs.{Prelude.{IfOk, OnErr, Result, Ok, Err}, String.string_bytes}
 use Rattle.mh_model.specs.Bytes.{Text}
-use Rattle.mh_size_text.specs.declared.end.SizeEnd.{SizeEnd}
-use Rattle.mh_size_text.specs.declared.end.SizeEnd.TheVariants.{Sized, NoSize, Refused}
-use Rattle.mh_sizing.specs.declared.text.SizeText.{SizeText}
+use Rattle.mh_script.specs.declared.fault.ScriptFault.{ScriptFault, TheVariants.{Write, NoMemory}}
+use Rattle.mh_size_counts.specs.declared.text.SizeText.{SizeText}
+use Rattle.mh_size_text.specs.declared.end.SizeEnd.{SizeEnd, TheVariants.{Sized, NoSize, Refused}}
+use Rattle.mh_text.specs.Devices.{Device}
 use Rattle.mh_program.specs.Program.{IsMadeText, WritesSize}
 
 -- what holds of the text that was made holds of one that is it
@@ -16,10 +13,10 @@ same-text : (Is : Text → Bool → Type 0) (made : SizeText) (text : Text) (fou
 same-text Is made text found is (same, whether) = subst (λ (b : Bool). Is text b) (sym whether) (subst (λ (t : Text). Is t made.is_found) (sym same) is)
 
 of-text : (Is : Text → Bool → Type 0) (made : SizeText) (old new : Device) (ended : Result SizeEnd ScriptFault) → Is (string_bytes made.text) made.is_found → WritesSize (IsMadeText made) old new ended → WritesSize Is old new ended
-of-text Is made old new (Ok Sized) is ((text, of, appends), failures) = ((text, same-text Is made text true is of, appends), failures)
-of-text Is made old new (Ok NoSize) is ((text, of, appends), failures) = ((text, same-text Is made text false is of, appends), failures)
+of-text Is made old new (Ok Sized) is (text, of, takes) = (text, same-text Is made text true is of, takes)
+of-text Is made old new (Ok NoSize) is (text, of, takes) = (text, same-text Is made text false is of, takes)
 of-text Is made old new (Ok (Refused refusal)) is none = none
-of-text Is made old new (Err Write) is ((text, found, of, begins), failures) = ((text, found, same-text Is made text found is of, begins), failures)
+of-text Is made old new (Err Write) is (text, (found, of), fails) = (text, (found, same-text Is made text found is of), fails)
 of-text Is made old new (Err NoMemory) is same = same
 of-text Is made old new (Err other) is none = none
 

@@ -1,33 +1,22 @@
 -- What the program tells on standard error.
 use Rattle.std.specs.Prelude.{◌≡◌, ℕ, ◌+◌, ◌<◌, Bool, true, false, Option, List, [], ◌∷◌, ◌++◌, Result, Ok, Err, codes, decimal, MatchOption}
-use Rattle.std.specs.Io.KnownBytes.{Appends}
 use Rattle.std.specs.List.{All}
-use Rattle.mh_show.specs.OfCurve.CurveEnd.{CurveEnd}
-use Rattle.mh_show.specs.OfCurve.CurveEnd.TheVariants as curve
-use Rattle.mh_show.specs.OfCurve.Broken as promises
-use Rattle.mh_show.specs.OfCurve.LongPause.{LongPause}
-use Rattle.mh_show.specs.OfCurve.ShortStretch.{ShortStretch}
+use Rattle.mh_window_curve.specs.declared.{end.CurveEnd.CurveEnd, promises.LongPause.LongPause}
+use Rattle.mh_window_curve.specs.declared.promises.ShortStretch.{ShortStretch}
 use Rattle.mh_windows.specs.declared.floor.BrokenFloor.{BrokenFloor}
-use Rattle.mh_log.specs.Judgements.{LogJudgement}
-use Rattle.mh_log.specs.OfSessions.Judgements.{HistoryJudgement}
-use Rattle.mh_log.specs.OfSessions.Judgement.TheVariants as judgement
-use Rattle.mh_log.specs.OfSessions.SessionsJudgement.{SessionsJudgement}
-use Rattle.mh_log.specs.OfSessions.Tally.{Tally}
+use Rattle.mh_judge_log.specs.Judgements.{LogJudgement}
+use Rattle.mh_judge.specs.{Judgements.HistoryJudgement, declared.judgement.Judgement.Judgement}
+use Rattle.mh_judge_sessions.specs.declared.sessions_judgement.SessionsJudgement.{SessionsJudgement}
+use Rattle.mh_judge_sessions.specs.declared.tally.EntryCounts.{EntryCounts}
 use Rattle.mh_model.specs.Bytes.{Text, line_text}
-use Rattle.mh_command_line.specs.declared.fault.LineFault.{LineFault}
-use Rattle.mh_command_line.specs.declared.fault.LineFault.TheVariants as line
-use Rattle.mh_orders.specs.declared.order.ConfigOption.{ConfigOption}
-use Rattle.mh_orders.specs.declared.order.ConfigOption.TheVariants.{Pages, Quantum, Trigger, Every}
-use Rattle.mh_command_line.specs.Printable.{IsPrintable, IsSign}
-use Rattle.mh_live.specs.OfScript.End.{End}
-use Rattle.mh_live.specs.OfScript.End.TheVariants.{Done, Refused}
-use Rattle.mh_live.specs.OfScript.LineRefusal.{LineRefusal}
-use Rattle.mh_live.specs.OfScript.ScriptFault.{ScriptFault}
-use Rattle.mh_live.specs.OfScript.ScriptFault.TheVariants.{Read, Write, NoMemory, HistoryFull}
-use Rattle.mh_live.specs.OfScript.Run.{Device}
+use Rattle.mh_command_line.specs.{declared.fault.LineFault.LineFault, Printable.{IsPrintable, IsSign}}
+use Rattle.mh_orders.specs.declared.order.ConfigOption.{ConfigOption, TheVariants.{Pages, Quantum, Trigger, Every}}
+use Rattle.mh_script.specs.declared.{end.End.End, end.End.TheVariants.{Done, Refused}, end.LineRefusal.LineRefusal}
+use Rattle.mh_script.specs.declared.fault.ScriptFault.{ScriptFault}
+use Rattle.mh_script.specs.declared.fault.ScriptFault.TheVariants.{Read, Write, NoMemory, HistoryFull}
 use Rattle.mh_size_text.specs.declared.end.SizeEnd.{SizeEnd}
-use Rattle.mh_size_text.specs.declared.end.SizeEnd.TheVariants as size
-use Rattle.mh_text.specs.Stream.{AppendsBeginning}
+use Rattle.mh_text.specs.Devices.{Device, FailsAt, Takes}
+use Rattle.mh_window_curve.specs.declared.promises.Broken as promises
 
 -- The stream -------------------------------------------------------------------------------------
 
@@ -42,8 +31,8 @@ fresh device = record { device = device; has_failed = false }
 
 -- a text was written whole, or a prefix of it if the device failed; nothing after a failure
 pub data Says (old new : ErrorStream) (text : Text) : Type 0 where
-  Whole : old.has_failed ≡ false → Appends old.device.bytes new.device.bytes text → new.device.failures ≡ old.device.failures → new.has_failed ≡ false → Says old new text
-  Broken : old.has_failed ≡ false → AppendsBeginning old.device.bytes new.device.bytes text → old.device.failures < new.device.failures → new.has_failed ≡ true → Says old new text
+  Whole : old.has_failed ≡ false → Takes old.device new.device text → new.has_failed ≡ false → Says old new text
+  Broken : old.has_failed ≡ false → FailsAt old.device new.device text → new.has_failed ≡ true → Says old new text
   Silent : old.has_failed ≡ true → new ≡ old → Says old new text
 
 -- nothing was told
@@ -109,22 +98,22 @@ SaysEnd old new (Refused refusal) = SaysRefusal old new refusal
 
 -- of a size: nothing if the script was done
 abbrev pub SaysSized : ErrorStream → ErrorStream → SizeEnd → Type 0
-SaysSized old new (size.Refused refusal) = SaysRefusal old new refusal
+SaysSized old new (SizeEnd.Refused refusal) = SaysRefusal old new refusal
 SaysSized old new ended = SaysNothing old new
 
 -- of a history: nothing if it is legal, and else where and why it isn't
 abbrev pub SaysJudgement : ErrorStream → ErrorStream → HistoryJudgement → Type 0
-SaysJudgement old new (judgement.Legal count) = SaysNothing old new
-SaysJudgement old new (judgement.Refused line reason) = SaysQuoted old new (IsComplaint (line_place line)) (line_text (codes "metroheap: the history is outside the grammar"))
-SaysJudgement old new (judgement.FirstBad number fault) = SaysQuoted old new (IsComplaint (entry_place number)) (line_text (codes "metroheap: an entry is bad"))
+SaysJudgement old new (Judgement.Legal count) = SaysNothing old new
+SaysJudgement old new (Judgement.Refused line reason) = SaysQuoted old new (IsComplaint (line_place line)) (line_text (codes "metroheap: the history is outside the grammar"))
+SaysJudgement old new (Judgement.FirstBad number fault) = SaysQuoted old new (IsComplaint (entry_place number)) (line_text (codes "metroheap: an entry is bad"))
 
 -- the line of what was looked through of a history
-abbrev pub tally_text : Tally → Text
+abbrev pub tally_text : EntryCounts → Text
 tally_text tally =
     line_text (codes "metroheap: entries " ++ decimal tally.entries ++ codes " full " ++ decimal tally.full ++ codes " quanta " ++ decimal tally.quanta ++ codes " starts " ++ decimal tally.starts)
 
 -- what was looked through, if the text was read
-abbrev pub SaysTally : ErrorStream → ErrorStream → Option Tally → Type 0
+abbrev pub SaysTally : ErrorStream → ErrorStream → Option EntryCounts → Type 0
 SaysTally old new found = MatchOption found (SaysNothing old new) (λ tally. Says old new (tally_text tally))
 
 -- of a history that is judged by what its sessions see: the same as of any, and then what was looked through
@@ -133,9 +122,9 @@ SaysSeen old new found = (between : ErrorStream) × SaysJudgement old between fo
 
 -- of a log: nothing if its order is legal, and else where and why it isn't
 abbrev pub SaysLog : ErrorStream → ErrorStream → LogJudgement → Type 0
-SaysLog old new (judgement.Legal count) = SaysNothing old new
-SaysLog old new (judgement.Refused line reason) = SaysQuoted old new (IsComplaint (line_place line)) (line_text (codes "metroheap: the log is outside the grammar"))
-SaysLog old new (judgement.FirstBad number fault) = SaysQuoted old new (IsComplaint (order_place number)) (line_text (codes "metroheap: an entry is bad"))
+SaysLog old new (Judgement.Legal count) = SaysNothing old new
+SaysLog old new (Judgement.Refused line reason) = SaysQuoted old new (IsComplaint (line_place line)) (line_text (codes "metroheap: the log is outside the grammar"))
+SaysLog old new (Judgement.FirstBad number fault) = SaysQuoted old new (IsComplaint (order_place number)) (line_text (codes "metroheap: an entry is bad"))
 
 -- the lines of what was promised of all windows and isn't so: a window below its floor, a pause that is too long, and a stretch below its share
 abbrev pub floor_text : BrokenFloor → Text
@@ -160,24 +149,24 @@ SaysBroken old new broken = (first second : ErrorStream) × SaysFound floor_text
 
 -- of a curve: what isn't so of what was promised if it was drawn, and else where and why it wasn't
 abbrev pub SaysCurve : ErrorStream → ErrorStream → CurveEnd → Type 0
-SaysCurve old new (curve.Drawn broken) = SaysBroken old new broken
-SaysCurve old new (curve.ScriptRefused refusal) = SaysRefusal old new refusal
-SaysCurve old new (curve.HistoryRefused line reason) = SaysQuoted old new (IsComplaint (line_place line)) (line_text (codes "metroheap: the history is outside the grammar"))
-SaysCurve old new curve.HistoryTooLong = Says old new (line_text (codes "metroheap: line 0: a history has fewer than 4611686018427387904 units"))
-SaysCurve old new (curve.LogRefused line reason) = SaysQuoted old new (IsComplaint (line_place line)) (line_text (codes "metroheap: the log is outside the grammar"))
+SaysCurve old new (CurveEnd.Drawn broken) = SaysBroken old new broken
+SaysCurve old new (CurveEnd.ScriptRefused refusal) = SaysRefusal old new refusal
+SaysCurve old new (CurveEnd.HistoryRefused line reason) = SaysQuoted old new (IsComplaint (line_place line)) (line_text (codes "metroheap: the history is outside the grammar"))
+SaysCurve old new CurveEnd.HistoryTooLong = Says old new (line_text (codes "metroheap: line 0: a history has fewer than 4611686018427387904 units"))
+SaysCurve old new (CurveEnd.LogRefused line reason) = SaysQuoted old new (IsComplaint (line_place line)) (line_text (codes "metroheap: the log is outside the grammar"))
 
 -- of what ends with more to tell, or with a fault
 abbrev pub SaysRun : {T : Type 0} → (ErrorStream → ErrorStream → T → Type 0) → ErrorStream → ErrorStream → Result T ScriptFault → Type 0
 SaysRun SaysDone old new (Ok done) = SaysDone old new done
 SaysRun SaysDone old new (Err fault) = Says old new (line_text (fault_text fault))
 
--- of a run that ends well without a word
-abbrev pub SaysFault : {T : Type 0} → ErrorStream → ErrorStream → Result T ScriptFault → Type 0
-SaysFault = SaysRun (λ old new done. SaysNothing old new)
+-- of what ends well without a word
+abbrev pub SaysDone : ErrorStream → ErrorStream → Unit {0} → Type 0
+SaysDone old new done = SaysNothing old new
 
 -- of words that gave no order
 abbrev pub SaysLine : ErrorStream → ErrorStream → LineFault → Type 0
-SaysLine old new (line.Words error) = SaysWords old new
-SaysLine old new line.NotText = Says old new (line_text (codes "metroheap: a word is not text"))
-SaysLine old new (line.Configuration option) = Says old new (line_text (outside_text option))
-SaysLine old new line.NoMemory = Says old new (line_text (codes "metroheap: no memory"))
+SaysLine old new (LineFault.Words error) = SaysWords old new
+SaysLine old new LineFault.NotText = Says old new (line_text (codes "metroheap: a word is not text"))
+SaysLine old new (LineFault.Configuration option) = Says old new (line_text (outside_text option))
+SaysLine old new LineFault.NoMemory = Says old new (line_text (codes "metroheap: no memory"))

@@ -3,30 +3,29 @@
 //! Only a line that quotes its input takes memory. If there is none, a line comes that gives no reason; for words it
 //! is `metroheap: bad command line`. The lines of `ScriptFault` are named once, in `mh_script`. Those of `LineFault`
 //! stand here once more, since a contract names them, with the limits of a configuration.
-ghost use Rattle.std.specs.Prelude.{◌≡◌, ◌+◌, IfOk, MatchResult};
-ghost use Rattle.std.specs.String.{string_bytes};
+ghost use Rattle.std.specs.{Prelude.{◌≡◌, ◌+◌, IfOk, MatchResult}, String.string_bytes};
 ghost use Rattle.mh_model.specs.Bytes.{line_text};
 ghost use Rattle.mh_command_line.specs.Printable.{IsPrintable};
-ghost use Rattle.mh_program.specs.Complaints.{IsComplaint, More, None, Says, SaysBroken, SaysCurve, SaysEnd, SaysFault, SaysFound, SaysJudgement, SaysLine, SaysLog, SaysRefusal, SaysRefusals, SaysRun, SaysSeen, SaysSized, SaysTally, SaysWords, entry_place, fault_text, floor_text, line_place, order_place, outside_text, pause_text, stretch_text, tally_text};
+ghost use Rattle.mh_program.specs.Complaints.{IsComplaint, More, None, Says, SaysBroken, SaysCurve, SaysEnd, SaysFound, SaysJudgement, SaysLine, SaysLog, SaysRefusal, SaysRefusals, SaysSeen, SaysSized, SaysTally, SaysWords, entry_place, fault_text, floor_text, line_place, order_place, outside_text, pause_text, stretch_text, tally_text};
 
 use crate::errors::Errors;
 use arrayvec::ArrayString;
 use itoa::Buffer;
 use mh_command_line::fault::LineFault;
 use mh_command_line::quoted::{printable, signs};
+use mh_judge::judgement::{HistoryJudgement, Judgement};
+use mh_judge_log::judgement::LogJudgement;
+use mh_judge_sessions::sessions_judgement::SessionsJudgement;
+use mh_judge_sessions::tally::EntryCounts;
 use mh_live::listener::Listener;
-use mh_live::mh_script::end::{End, LineRefusal};
-use mh_live::mh_script::fault::{HISTORY_FULL, NO_MEMORY, READ_FAILED, ScriptFault, WRITE_FAILED};
-use mh_live::mh_script::mh_reasons::history_reason::HistoryReason;
-use mh_log::judgement::LogJudgement;
-use mh_log::mh_sessions::mh_judging::judgement::{HistoryJudgement, Judgement};
-use mh_log::mh_sessions::sessions_judgement::SessionsJudgement;
-use mh_log::mh_sessions::tally::Tally;
 use mh_orders::order::ConfigOption;
-use mh_show::mh_curve::end::CurveEnd;
-use mh_show::mh_curve::promises::{Broken, LongPause, ShortStretch};
+use mh_reasons::history_reason::HistoryReason;
+use mh_script::end::{End, LineRefusal};
+use mh_script::fault::{HISTORY_FULL, NO_MEMORY, READ_FAILED, ScriptFault, WRITE_FAILED};
 use mh_size_text::end::SizeEnd;
 use mh_text::sink::Sink;
+use mh_window_curve::end::CurveEnd;
+use mh_window_curve::promises::{Broken, LongPause, ShortStretch};
 use mh_windows::floor::BrokenFloor;
 use std::alloc::{AllocError, Global};
 use std::fmt;
@@ -39,7 +38,7 @@ const TALLY_BYTES: usize = 128;
 const PROMISE_BYTES: usize = 256;
 
 /// The line that names a fault of a run.
-fn fault_line(fault: ScriptFault) -> &'static [u8]
+pub(crate) fn fault_line(fault: ScriptFault) -> &'static [u8]
     ensures { result.now ≡ line_text (fault_text fault) }
 {
     match fault {
@@ -138,10 +137,10 @@ fn order_complaint<T: fmt::Display>(
 }
 
 /// The line of what was looked through of a history. It takes no memory.
-fn tally_line(tally: Tally) -> ArrayString<TALLY_BYTES>
+fn tally_line(tally: EntryCounts) -> ArrayString<TALLY_BYTES>
     ensures { result.bytes ≡ tally_text tally }
 {
-    let Tally {
+    let EntryCounts {
         entries,
         full,
         quanta,
@@ -275,7 +274,8 @@ impl<E: Sink> Errors<E> {
         self.say_quoted(text, b"metroheap: the script is outside the grammar\n");
     }
 
-    fn say_done(&mut self, end: &End)
+    /// Says why a run or a race was refused, if it was.
+    pub(crate) fn say_end(&mut self, end: &End)
         ensures { SaysEnd self.old self.new end.now }
     {
         if let End::Refused(refusal) = end {
@@ -283,17 +283,8 @@ impl<E: Sink> Errors<E> {
         }
     }
 
-    /// Says how a run or a race ended, if not well.
-    pub(crate) fn say_end(&mut self, ended: &Result<End, ScriptFault>)
-        ensures { SaysRun SaysEnd self.old self.new ended.now }
-    {
-        match ended {
-            Ok(end) => self.say_done(end),
-            Err(fault) => self.say(fault_line(*fault)),
-        }
-    }
-
-    fn say_size_end(&mut self, end: &SizeEnd)
+    /// Says why a script was not sized, if it wasn't.
+    pub(crate) fn say_size(&mut self, end: &SizeEnd)
         ensures { SaysSized self.old self.new end.now }
     {
         match end {
@@ -302,17 +293,8 @@ impl<E: Sink> Errors<E> {
         }
     }
 
-    /// Says how the sizing of a script ended, if not well.
-    pub(crate) fn say_sized(&mut self, ended: &Result<SizeEnd, ScriptFault>)
-        ensures { SaysRun SaysSized self.old self.new ended.now }
-    {
-        match ended {
-            Ok(end) => self.say_size_end(end),
-            Err(fault) => self.say(fault_line(*fault)),
-        }
-    }
-
-    fn say_found(&mut self, judgement: &HistoryJudgement)
+    /// Says what is wrong with a history, if anything is.
+    pub(crate) fn say_judgement(&mut self, judgement: &HistoryJudgement)
         ensures { SaysJudgement self.old self.new judgement.now }
     {
         match judgement {
@@ -340,11 +322,11 @@ impl<E: Sink> Errors<E> {
                 let text = line_complaint(self.alloc(), *line, &refusal);
                 self.say_quoted(text, b"metroheap: the history is outside the grammar\n");
             }
-            _ => self.say_found(judgement),
+            _ => self.say_judgement(judgement),
         }
     }
 
-    fn say_tally(&mut self, tally: Option<Tally>)
+    fn say_tally(&mut self, tally: Option<EntryCounts>)
         ensures { SaysTally self.old self.new tally }
     {
         if let Some(tally) = tally {
@@ -352,34 +334,16 @@ impl<E: Sink> Errors<E> {
         }
     }
 
-    fn say_looked(&mut self, found: &SessionsJudgement)
+    /// Says what is wrong with a history by what its sessions see, and what was looked through.
+    pub(crate) fn say_seen(&mut self, found: &SessionsJudgement)
         ensures { SaysSeen self.old self.new found.now }
     {
         self.say_seen_found(&found.judgement);
         self.say_tally(found.tally);
     }
 
-    /// The same of a history that is judged by what its sessions see, and what was looked through.
-    pub(crate) fn say_seen(&mut self, ended: &Result<SessionsJudgement, ScriptFault>)
-        ensures { SaysRun SaysSeen self.old self.new ended.now }
-    {
-        match ended {
-            Ok(found) => self.say_looked(found),
-            Err(fault) => self.say(fault_line(*fault)),
-        }
-    }
-
-    /// Says what is wrong with a history, or the fault at which its judging ended.
-    pub(crate) fn say_judgement(&mut self, ended: &Result<HistoryJudgement, ScriptFault>)
-        ensures { SaysRun SaysJudgement self.old self.new ended.now }
-    {
-        match ended {
-            Ok(judgement) => self.say_found(judgement),
-            Err(fault) => self.say(fault_line(*fault)),
-        }
-    }
-
-    fn say_log_found(&mut self, judgement: &LogJudgement)
+    /// Says what is wrong with a log, if anything is.
+    pub(crate) fn say_log(&mut self, judgement: &LogJudgement)
         ensures { SaysLog self.old self.new judgement.now }
     {
         match judgement {
@@ -392,16 +356,6 @@ impl<E: Sink> Errors<E> {
                 let text = order_complaint(self.alloc(), *number, fault);
                 self.say_quoted(text, b"metroheap: an entry is bad\n");
             }
-        }
-    }
-
-    /// Says what is wrong with a log, or the fault at which its judging ended.
-    pub(crate) fn say_log(&mut self, ended: &Result<LogJudgement, ScriptFault>)
-        ensures { SaysRun SaysLog self.old self.new ended.now }
-    {
-        match ended {
-            Ok(judgement) => self.say_log_found(judgement),
-            Err(fault) => self.say(fault_line(*fault)),
         }
     }
 
@@ -438,7 +392,8 @@ impl<E: Sink> Errors<E> {
         self.say_short(broken.stretch);
     }
 
-    fn say_drawn(&mut self, end: &CurveEnd)
+    /// Says what of promises isn't so of a curve, or why it wasn't drawn.
+    pub(crate) fn say_curve(&mut self, end: &CurveEnd)
         ensures { SaysCurve self.old self.new end.now }
     {
         match end {
@@ -457,25 +412,6 @@ impl<E: Sink> Errors<E> {
                 let text = line_complaint(self.alloc(), *line, reason);
                 self.say_quoted(text, b"metroheap: the log is outside the grammar\n");
             }
-        }
-    }
-
-    /// Says what of promises isn't so of a curve, why it wasn't drawn, or the fault at which that ended.
-    pub(crate) fn say_curve(&mut self, ended: &Result<CurveEnd, ScriptFault>)
-        ensures { SaysRun SaysCurve self.old self.new ended.now }
-    {
-        match ended {
-            Ok(end) => self.say_drawn(end),
-            Err(fault) => self.say(fault_line(*fault)),
-        }
-    }
-
-    /// Says the fault of a run, if it has one.
-    pub(crate) fn say_fault<T>(&mut self, ended: &Result<T, ScriptFault>)
-        ensures { SaysFault self.old self.new ended.now }
-    {
-        if let Err(fault) = ended {
-            self.say(fault_line(*fault));
         }
     }
 }

@@ -1,8 +1,7 @@
 //! Standard error. It gets nothing more once a write to it failed. Nobody is left to hear it, and what is answered on
 //! standard output goes on.
-ghost use Rattle.std.specs.Prelude.{◌≡◌, ◌<◌, ◌^◌, false};
+ghost use Rattle.std.specs.Prelude.{◌≡◌, false};
 ghost use Rattle.mh_program.specs.Complaints.{Says, fresh};
-ghost use Rattle.mh_live.specs.OfScript.Run.{device};
 
 use mh_text::sink::Sink;
 use mh_text::stream::write_text;
@@ -18,22 +17,17 @@ pub struct Errors<E: Sink> {
 }
 
 impl<E: Sink> Model for Errors<E> {
-    ghost use Rattle.std.specs.Prelude.{◌≡◌, ◌<◌, ◌^◌, false};
     ghost use Rattle.mh_program.specs.Complaints.{ErrorStream};
-    ghost use Rattle.mh_live.specs.OfScript.Run.{device};
 
     ghost Value = { ErrorStream };
 
-    ghost view = { λ errors. record { device = device (E.written errors.sink) (E.failures errors.sink); has_failed = errors.has_failed } };
-
-    ghost invariant = { λ errors. errors.has_failed ≡ false → E.failures errors.sink < 2 ^ 62 };
+    ghost view = { λ errors. record { device = E.device errors.sink; has_failed = errors.has_failed } };
 }
 
 impl<E: Sink> Errors<E> {
     /// The allocator is that of the texts.
     pub fn new(alloc: Global, sink: E) -> Errors<E>
-        requires { E.failures sink < 2 ^ 62 }
-        ensures { result ≡ fresh (device (E.written sink) (E.failures sink)) }
+        ensures { result ≡ fresh (E.device sink) }
     {
         Errors {
             alloc,
@@ -54,11 +48,5 @@ impl<E: Sink> Errors<E> {
 
     pub(crate) fn alloc(&self) -> Global {
         self.alloc
-    }
-
-    pub fn into_sink(self) -> E
-        ensures { device (E.written result) (E.failures result) ≡ self.device }
-    {
-        self.sink
     }
 }

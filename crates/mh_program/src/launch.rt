@@ -3,7 +3,7 @@
 use crate::errors::Errors;
 use crate::program::program;
 use mh_command_line::words::words;
-use mh_live::mh_scan::gate::Open;
+use mh_scan::gate::Open;
 use mh_size_text::progress::{Progress, Silent};
 use mh_text::sink::StdSink;
 use mh_text::source::StdSource;

@@ -8,15 +8,11 @@
 //! blamed. The exit status is that of an end which some text has. Over memory they are exact.
 #![tactic(auto)]
 
-pub use mh_live;
-pub use mh_show;
-
 mod complaints;
+pub mod ending;
 pub mod errors;
 pub mod launch;
+mod made;
 pub mod program;
 pub mod progress;
 pub mod prompt;
-mod run_curve;
-mod run_size;
-pub mod status;

@@ -1,3 +1,2 @@
 pub mod AnsweredEvents
 pub mod SpentUnits
-pub mod OfLaws

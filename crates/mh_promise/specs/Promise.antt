@@ -1,29 +1,18 @@
 -- What a run of a list of events promises of its replies, its heap and its trace. By the laws at the end an outcome that is the machine's keeps this
 -- promise. If a clause speaks of the events before another, it holds at each moment of the run. docs/THEOREM.md has the clauses in plain words.
 use Rattle.std.specs.Prelude.{◌≡◌, ℕ, ◌-◌, ◌<◌, ◌≤◌, true, false, Some, None, List, [], ◌∷◌, ◌++◌, length}
-use Rattle.mh_model.specs.declared.command.Command.{Command}
-use Rattle.mh_model.specs.declared.command.Command.TheVariants as command
-use Rattle.mh_model.specs.declared.command.Control.TheVariants as control
-use Rattle.mh_model.specs.declared.command.Event.{Event}
-use Rattle.mh_model.specs.declared.command.Event.TheVariants as event
-use Rattle.mh_model.specs.declared.config.Config.{Config}
-use Rattle.mh_model.specs.declared.cycle.Phase.{Phase}
-use Rattle.mh_model.specs.declared.reply.Refusal.{Refusal}
-use Rattle.mh_model.specs.declared.reply.Refusal.TheVariants.{HeapFull}
-use Rattle.mh_model.specs.declared.reply.Reply.{Reply}
-use Rattle.mh_model.specs.declared.reply.Reply.TheVariants as reply
-use Rattle.mh_model.specs.Bound.{most_quanta}
-use Rattle.mh_model.specs.World.{IsNew, first_world, never_full, refusal, world_step}
-use Rattle.mh_model.specs.Collector.{is_idle, quantum}
+use Rattle.mh_model.specs.{declared.command.Command.Command, declared.command.Event.Event}
+use Rattle.mh_model.specs.{declared.config.Config.Config, declared.cycle.Phase.Phase, declared.reply.Refusal.Refusal}
+use Rattle.mh_model.specs.{declared.reply.Refusal.TheVariants.HeapFull, declared.reply.Reply.Reply, Bound.most_quanta}
+use Rattle.mh_model.specs.{World.{IsNew, first_world, never_full, refusal, world_step}, Collector.{is_idle, quantum}}
 use Rattle.mh_model.specs.Mutator.{heap_sight, new_group}
 use Rattle.mh_model.specs.Machine.{first_machine, half_step, machine_after, machine_replies}
 use Rattle.mh_model.specs.Invariant.{IsFinished, IsLinked}
 use Rattle.mh_model.specs.Snapshot.{Moment, half_moment, has_quantum, is_heap_full, snapshot_at, world_beside}
-use Rattle.mh_model.specs.Trace.{least_mutator, floor}
-use Rattle.mh_run_laws.specs.BesideTheWorld.{IsFaithful, IsInCycle}
-use Rattle.mh_laws.specs.Bounds.{HasEnded, HasRunQuanta}
-use Rattle.mh_run_laws.specs.Forwarders.{AreOfItsCycle}
+use Rattle.mh_model.specs.{Trace.{least_mutator, floor}, declared.command.Control.Control}
+use Rattle.mh_run_laws.specs.{BesideTheWorld.{IsFaithful, IsInCycle}, Forwarders.AreOfItsCycle}
 use Rattle.mh_run_laws.specs.Replays.{machine_at, moment_at}
+use Rattle.mh_laws.specs.Bounds.{HasEnded, HasRunQuanta}
 use Rattle.mh_promise.specs.Runs.{Outcome, outcome_of, IsAnswered, IsTheMachines, AreAnsweredSoFar}
 
 -- Replies ----------------------------------------------------------------------------------------
@@ -34,33 +23,33 @@ AreAnswered events replies = length replies ≡ length events
 
 -- Every reply to a session but a full heap is that of a heap that never collects or moves. The commands that a full heap refused weren't given to it
 abbrev pub AreTheWorlds : Config → List Event → List Reply → Type 0
-AreTheWorlds config events replies = (before : List Event) (who : ℕ) (command : Command) (given : Reply) → IsAnswered events replies before (event.Session who command) given → is_heap_full given ≡ false
+AreTheWorlds config events replies = (before : List Event) (who : ℕ) (command : Command) (given : Reply) → IsAnswered events replies before (Event.Session who command) given → is_heap_full given ≡ false
     → given ≡ (world_step (world_beside (first_world config) before replies) who command).reply
 
 -- A full heap answers new objects alone, and exactly those of which some part has no place and which no other test refuses. So the heap that never
 -- collects or moves would make each
 pub record FullIsNoPlace (config : Config) (events : List Event) (replies : List Reply) : Type 0 where
-  pub new : (before : List Event) (who : ℕ) (asked : Command) → IsAnswered events replies before (event.Session who asked) (reply.Refused HeapFull) → IsNew asked
-  pub only : (before : List Event) (who slot references numbers : ℕ) → IsAnswered events replies before (event.Session who (command.New slot references numbers)) (reply.Refused HeapFull) → new_group (machine_at config before).heap references numbers ≡ None
-  pub alone : (before : List Event) (who slot references numbers : ℕ) → IsAnswered events replies before (event.Session who (command.New slot references numbers)) (reply.Refused HeapFull)
-      → refusal (record (heap_sight (machine_at config before).heap) { is_full = never_full }) who (command.New slot references numbers) ≡ None
-  pub each : (before : List Event) (who slot references numbers : ℕ) (given : Reply) → IsAnswered events replies before (event.Session who (command.New slot references numbers)) given
-      → refusal (record (heap_sight (machine_at config before).heap) { is_full = never_full }) who (command.New slot references numbers) ≡ None → new_group (machine_at config before).heap references numbers ≡ None → given ≡ reply.Refused HeapFull
-  pub made : (before : List Event) (who slot references numbers : ℕ) → IsAnswered events replies before (event.Session who (command.New slot references numbers)) (reply.Refused HeapFull)
-      → (world_step (world_beside (first_world config) before replies) who (command.New slot references numbers)).reply ≡ reply.Done
+  pub new : (before : List Event) (who : ℕ) (asked : Command) → IsAnswered events replies before (Event.Session who asked) (Reply.Refused HeapFull) → IsNew asked
+  pub only : (before : List Event) (who slot references numbers : ℕ) → IsAnswered events replies before (Event.Session who (Command.New slot references numbers)) (Reply.Refused HeapFull) → new_group (machine_at config before).heap references numbers ≡ None
+  pub alone : (before : List Event) (who slot references numbers : ℕ) → IsAnswered events replies before (Event.Session who (Command.New slot references numbers)) (Reply.Refused HeapFull)
+      → refusal (record (heap_sight (machine_at config before).heap) { is_full = never_full }) who (Command.New slot references numbers) ≡ None
+  pub each : (before : List Event) (who slot references numbers : ℕ) (given : Reply) → IsAnswered events replies before (Event.Session who (Command.New slot references numbers)) given
+      → refusal (record (heap_sight (machine_at config before).heap) { is_full = never_full }) who (Command.New slot references numbers) ≡ None → new_group (machine_at config before).heap references numbers ≡ None → given ≡ Reply.Refused HeapFull
+  pub made : (before : List Event) (who slot references numbers : ℕ) → IsAnswered events replies before (Event.Session who (Command.New slot references numbers)) (Reply.Refused HeapFull)
+      → (world_step (world_beside (first_world config) before replies) who (Command.New slot references numbers)).reply ≡ Reply.Done
 
 -- A command that is refused, by a full heap too, leaves the heap as it was; only the quantum that it makes due may change it. It is still one unit in
 -- the trace
 abbrev pub RefusedChangesNothing : Config → List Event → List Reply → Type 0
-RefusedChangesNothing config events replies = (before : List Event) (who : ℕ) (command : Command) (refused : Refusal) → IsAnswered events replies before (event.Session who command) (reply.Refused refused)
-    → (half_step (machine_at config before) (event.Session who command)).heap ≡ (machine_at config before).heap
+RefusedChangesNothing config events replies = (before : List Event) (who : ℕ) (command : Command) (refused : Refusal) → IsAnswered events replies before (Event.Session who command) (Reply.Refused refused)
+    → (half_step (machine_at config before) (Event.Session who command)).heap ≡ (machine_at config before).heap
 
 -- Quanta -----------------------------------------------------------------------------------------
 
 -- No quantum spends more units than are configured: by the greatest of the trace, and by each reply that states what one spent
 pub record QuantaKeepTheirLimit (config : Config) (events : List Event) (outcome : Outcome) : Type 0 where
   pub greatest : outcome.trace.greatest ≤ config.quantum
-  pub spent : (before : List Event) (event : Event) (units : ℕ) (phase : Phase) → IsAnswered events outcome.replies before event (reply.Spent units phase) → units ≤ config.quantum
+  pub spent : (before : List Event) (event : Event) (units : ℕ) (phase : Phase) → IsAnswered events outcome.replies before event (Reply.Spent units phase) → units ≤ config.quantum
 
 -- Each stretch of the trace has at least the floor of its length in units of the mutator
 -- from: Cheng and Blelloch
@@ -115,14 +104,14 @@ CyclesEnd config events = (before : List Event) →
 -- a reply to the control `left` that is true: some quanta are left, at least 1, and once so many have been run the cycle has ended
 pub record CountsToTheEnd (config : Config) (events before : List Event) (given : Reply) : Type 0 where
   pub count : ℕ
-  pub is : given ≡ reply.Left count
+  pub is : given ≡ Reply.Left count
   pub some : 1 ≤ count
   pub ends : EndsAfter config events before count
 
 -- The control `left` is answered 0 if no cycle runs, and otherwise a number of quanta, at least 1, after which the cycle has ended
 pub record LeftCountsToTheEnd (config : Config) (events : List Event) (replies : List Reply) : Type 0 where
-  pub running : (before : List Event) (given : Reply) → IsAnswered events replies before (event.Control control.Left) given → is_idle (machine_at config before).heap.collector.phase ≡ false → CountsToTheEnd config events before given
-  pub idle : (before : List Event) (given : Reply) → IsAnswered events replies before (event.Control control.Left) given → is_idle (machine_at config before).heap.collector.phase ≡ true → given ≡ reply.Left 0
+  pub running : (before : List Event) (given : Reply) → IsAnswered events replies before (Event.Control Control.Left) given → is_idle (machine_at config before).heap.collector.phase ≡ false → CountsToTheEnd config events before given
+  pub idle : (before : List Event) (given : Reply) → IsAnswered events replies before (Event.Control Control.Left) given → is_idle (machine_at config before).heap.collector.phase ≡ true → given ≡ Reply.Left 0
 
 -- The promise ------------------------------------------------------------------------------------
 

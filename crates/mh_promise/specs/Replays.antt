@@ -1,13 +1,9 @@
 -- What a machine that goes through its events one by one keeps of the promise.
 use Rattle.std.specs.Prelude.{◌≡◌, List, [], ◌∷◌, ◌++◌}
-use Rattle.mh_model.specs.declared.command.Event.{Event}
-use Rattle.mh_model.specs.declared.config.Config.{Config}
-use Rattle.mh_model.specs.declared.reply.Reply.{Reply}
-use Rattle.mh_model.specs.World.{says}
-use Rattle.mh_model.specs.Machine.{Machine, first_machine, event_step, machine_replies}
+use Rattle.mh_model.specs.{declared.command.Event.Event, declared.config.Config.Config, declared.reply.Reply.Reply}
+use Rattle.mh_model.specs.{World.says, Machine.{Machine, first_machine, event_step, machine_replies}}
 use Rattle.mh_run_laws.specs.Replays.{machine_at}
-use Rattle.mh_promise.specs.Runs.{outcome_of, IsTheMachines}
-use Rattle.mh_promise.specs.Promise.{IsPromised}
+use Rattle.mh_promise.specs.{Runs.{outcome_of, IsTheMachines}, Promise.IsPromised}
 
 -- a machine and its replies are those of a history of events
 pub record IsReplay (config : Config) (events : List Event) (replies : List Reply) (machine : Machine) : Type 0 where

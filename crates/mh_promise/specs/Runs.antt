@@ -1,11 +1,7 @@
 -- Runs: what one gives back, and when that is the machine's.
 use Rattle.std.specs.Prelude.{◌≡◌, ℕ, Some, List, ◌∷◌, ◌++◌, length, slice_get}
-use Rattle.mh_model.specs.declared.command.Event.{Event}
-use Rattle.mh_model.specs.declared.config.Config.{Config}
-use Rattle.mh_model.specs.declared.reply.Reply.{Reply}
-use Rattle.mh_model.specs.Pages.{free_pages}
-use Rattle.mh_model.specs.Mutator.{HeapState}
-use Rattle.mh_model.specs.Machine.{Machine, first_machine, machine_replies}
+use Rattle.mh_model.specs.{declared.command.Event.Event, declared.config.Config.Config, declared.reply.Reply.Reply}
+use Rattle.mh_model.specs.{Pages.free_pages, Mutator.HeapState, Machine.{Machine, first_machine, machine_replies}}
 use Rattle.mh_model.specs.Trace.{TraceState}
 use Rattle.mh_run_laws.specs.Replays.{machine_at}
 

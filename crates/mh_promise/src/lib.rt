@@ -1,7 +1,5 @@
 //! What a run promises of its replies, its heap and its trace, and the laws by which it keeps that once they are the machine's.
 #![tactic(auto)]
 
-pub use mh_run_laws;
-
 pub mod promise;
 pub mod replays;

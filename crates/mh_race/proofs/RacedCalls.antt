@@ -1,15 +1,12 @@
 -- What the history of a race has of each seat's calls.
 use Rattle.std.proofs.Common.{arith, ◌≡◌, ◌≤◌, ◌<◌, ◌==◌, ◌+◌, ⊎_elim, ℕ, Bool, true, false, List, [], ◌∷◌, ◌++◌, Option, None, Some, All, count_by, get_or, length, length-append, append-nil, refl, sym, ap, ◌∙◌, subst, cond}
-use Rattle.std.proofs.lemmas.Bool.{eqb-true}
-use Rattle.std.proofs.lemmas.Bool.Decides.{leb_tells}
-use Rattle.std.proofs.lemmas.List.Elements.{All-contains, All-head, All-tail}
-use Rattle.std.proofs.lemmas.Option.{none-some}
+use Rattle.std.proofs.{lemmas.Bool.eqb-true, lemmas.Bool.Decides.leb_tells}
+use Rattle.std.proofs.{lemmas.List.Elements.{All-contains, All-head, All-tail}, lemmas.Option.none-some}
 use Rattle.std.proofs.lemmas.List.Sums.{sum_by-cons}
-use Rattle.mh_service.specs.OfLock.Seats.{LockSeatView}
-use Rattle.mh_model.specs.declared.command.Event.{Event}
-use Rattle.mh_model.specs.declared.history.Entry.{Entry}
+use Rattle.mh_lock.specs.Seats.{LockSeatView}
+use Rattle.mh_model.specs.{declared.command.Event.Event, declared.history.Entry.Entry}
 use Rattle.mh_model.specs.History.{owner_of, owned_by, events_of}
-use Rattle.mh_service.specs.OfState.Stop.{Stop}
+use Rattle.mh_machine.specs.declared.machine.Stop.{Stop}
 use Rattle.mh_service.specs.Services.{ServiceView}
 use Rattle.mh_race.specs.Racing.{AreRun, AreStopped, BeginsItsCalls, HasMadeItsCalls, MakesTheCalls, NoneStopped, StoppedAtARefusal, WasRefused}
 

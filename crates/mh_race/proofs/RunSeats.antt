@@ -1,20 +1,15 @@
 -- What the seats of a race have run of its events, and which of them were refused one.
 use Rattle.std.proofs.Common.{arith, ◌≡◌, ◌≢◌, ◌+◌, ◌<◌, ◌==◌, ◌⊎◌, inl, inr, ⊎_elim, ℕ, List, [], ◌∷◌, ◌++◌, Option, Some, None, All, Contains, get_or, length, map, replicate, take, drop, refl, sym, ap, ◌∙◌, subst, cond}
-use Rattle.std.specs.Prelude.{Result, Ok, Err, IfErr, OnErr, IsErrOf}
-use Rattle.std.proofs.lemmas.Bool.{eq-eqb}
-use Rattle.std.proofs.lemmas.Bool.Decides.{eqb_tells, leb_tells}
+use Rattle.std.proofs.{lemmas.Bool.eq-eqb, lemmas.Bool.Decides.{eqb_tells, leb_tells}}
 use Rattle.std.proofs.lemmas.List.{take-append-drop, take_more, map-append, drop_more, get_or-map, get_or-replicate, get_or_past, length-map, length-replicate}
 use Rattle.std.proofs.lemmas.List.Elements.{All-append, All-contains, All-map, All-push, Contains-append_left, Contains-append_right, Contains-push, filter-append}
 use Rattle.std.proofs.lemmas.Option.{none-some}
-use Rattle.mh_service.specs.OfLock.Seats.{LockSeatView}
-use Rattle.mh_model.specs.declared.command.Event.{Event}
-use Rattle.mh_model.specs.declared.history.Entry.{Entry}
-use Rattle.mh_model.specs.declared.reply.Reply.{Reply}
+use Rattle.std.specs.Prelude.{Result, Ok, Err, IfErr, OnErr, IsErrOf}
+use Rattle.mh_lock.specs.Seats.{LockSeatView}
+use Rattle.mh_model.specs.{declared.command.Event.Event, declared.history.Entry.Entry, declared.reply.Reply.Reply}
 use Rattle.mh_model.specs.History.{owner_of, owned_by, events_of}
-use Rattle.mh_service.specs.OfState.Stop.{Stop}
-use Rattle.mh_service.specs.OfState.Stop.TheVariants.{NoMemory}
-use Rattle.mh_race.specs.Racing.{AreNoted, AreRun, HasMadeItsCalls, HasRunIn, WasRefused}
-use Rattle.mh_race.specs.declared.racer.Racer.{Racer}
+use Rattle.mh_machine.specs.declared.machine.Stop.{Stop, TheVariants.NoMemory}
+use Rattle.mh_race.specs.{Racing.{AreNoted, AreRun, HasMadeItsCalls, HasRunIn, WasRefused}, declared.racer.Racer.Racer}
 use Rattle.mh_service.specs.Services.{ServiceView, IsOfService, IsServed}
 
 -- a service that refused a call refused it to the seat as it is

@@ -1,14 +1,11 @@
 -- What each seat of a race has done, and what a race leaves of the events of its script.
 use Rattle.std.specs.Prelude.{◌≡◌, ◌↔◌, ◌⊎◌, ℕ, ◌<◌, List, [], ◌∷◌, ◌++◌, Option, Some, None, Err, All, Contains, get_or}
-use Rattle.mh_model.specs.declared.command.Event.{Event}
-use Rattle.mh_model.specs.declared.config.Config.{Config}
-use Rattle.mh_model.specs.History.{owner_of, owned_by, events_of}
-use Rattle.mh_service.specs.OfLock.Seats.{LockSeatView}
-use Rattle.mh_model.specs.declared.history.Entry.{Entry}
+use Rattle.mh_model.specs.{declared.command.Event.Event, declared.config.Config.Config}
+use Rattle.mh_model.specs.{History.{owner_of, owned_by, events_of}, declared.history.Entry.Entry}
+use Rattle.mh_lock.specs.Seats.{LockSeatView}
 use Rattle.mh_race.specs.declared.racer.Racer.{Racer}
 use Rattle.mh_service.specs.Services.{ServiceView, IsOfService, IsServed}
-use Rattle.mh_service.specs.OfState.Stop.{Stop}
-use Rattle.mh_service.specs.OfState.Stop.TheVariants.{NoMemory}
+use Rattle.mh_machine.specs.declared.machine.Stop.{Stop, TheVariants.NoMemory}
 
 -- a seat of this service, before its first call
 abbrev pub IsNewSeat : ServiceView → LockSeatView Entry → Type 0

@@ -4,7 +4,5 @@
 //! of the history. So the history has of each seat exactly these (`RacedCalls`).
 #![tactic(auto)]
 
-pub use mh_service::mh_scan;
-
 pub mod race;
 mod racer;

@@ -14,11 +14,10 @@
 //! the one left at the end is no shorter. If it were shorter, which no run shows, the race would report `NoMemory`.
 ghost use Rattle.std.specs.Prelude.{◌≡◌, ◌≢◌, ◌<◌, ◌≤◌, ◌+◌, ◌++◌, ℕ, All, IfOk, None, Some, get_or, map, vec_len};
 ghost use Rattle.std.specs.Vec.{vec_capacity};
-ghost use Rattle.mh_model.specs.History.{IsLegal, events_of};
-ghost use Rattle.mh_model.specs.Limits.{most_entries};
+ghost use Rattle.mh_model.specs.{History.{IsLegal, events_of}, Limits.most_entries};
 ghost use Rattle.mh_race.specs.Racing.{IsNewSeat, IsFresh, HasRunIn, AreNoted, AreRun, AreStopped, BeginsItsCalls, HaveReasons, SomeSeatStopped, NoneStopped};
 ghost use Rattle.mh_service.specs.Services.{ServiceView, IsOfService};
-ghost use Rattle.mh_service.specs.OfState.Stop.{Stop};
+ghost use Rattle.mh_machine.specs.declared.machine.Stop.{Stop};
 
 use crate::racer::{Called, Racer};
 use mh_model::command::Event;
@@ -26,11 +25,11 @@ use mh_model::config::Config;
 use mh_model::history::Entry;
 use mh_model::limits::MOST_ENTRIES;
 use mh_model::memory::NoMemory;
-use mh_service::mh_scan::crew_scan::CrewGate;
-use mh_service::mh_seat_laws::lock::events_have_one_owner;
-use mh_service::mh_state::machine::Stop;
+use mh_scan::crew_scan::CrewGate;
+use mh_seat_laws::lock::events_have_one_owner;
 use mh_service::seat::{DESK, Seat};
 use mh_service::service::{SEATS, Service};
+use mh_state::machine::Stop;
 use std::alloc::Global;
 use std::sync::Wait;
 use std::thread;

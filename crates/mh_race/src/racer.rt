@@ -4,19 +4,18 @@
 //! A racer is proved for whatever it may call, of which it knows no reason to refuse. So it can stop only by what a call
 //! of its own was answered, and only for that reason.
 ghost use Rattle.std.specs.Prelude.{◌≡◌, ◌∷◌, ◌++◌, [], None, IfErr, IfOk};
-ghost use Rattle.mh_service.specs.OfLock.Seats.{LockSeatView};
-ghost use Rattle.mh_model.specs.declared.command.Event.{Event};
-ghost use Rattle.mh_model.specs.declared.history.Entry.{Entry};
+ghost use Rattle.mh_lock.specs.Seats.{LockSeatView};
+ghost use Rattle.mh_model.specs.declared.{command.Event.Event, history.Entry.Entry};
 ghost use Rattle.mh_race.specs.Racing.{IsFresh, HasRunIn, WasRefused};
-ghost use Rattle.mh_service.specs.OfState.Stop.{Stop};
+ghost use Rattle.mh_machine.specs.declared.machine.Stop.{Stop};
 ghost use Rattle.mh_service.specs.Services.{IsOfService, Owns, ServiceView};
 
 use mh_model::command::Event;
 use mh_model::reply::Reply;
-use mh_service::mh_scan::crew_scan::CrewGate;
-use mh_service::mh_state::machine::Stop;
+use mh_scan::crew_scan::CrewGate;
 use mh_service::seat::Seat;
 use mh_service::service::Service;
+use mh_state::machine::Stop;
 use std::sync::Wait;
 use std::thread::Threads;
 

@@ -1,2 +1,2 @@
 pub mod RacedLemmas
-pub mod PromisedLemmas
+pub mod TaskLemmas

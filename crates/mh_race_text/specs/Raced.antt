@@ -1,55 +1,15 @@
--- What a race of a script has written.
-use Rattle.std.specs.Prelude.{◌≡◌, ℕ, List, length, Option, Result, Ok, Err, IfOk, OnErr, IsErrOf}
-use Rattle.std.specs.Io.KnownBytes.{Appends, Keeps}
-use Rattle.mh_model.specs.declared.command.Event.{Event}
-use Rattle.mh_model.specs.Bytes.{Text, line_text}
-use Rattle.mh_model.specs.Limits.{most_entries}
-use Rattle.mh_model.specs.Races.{IsRaced, IsRacedFull, IsRaceBegun}
-use Rattle.mh_model.specs.Replies.{bad_line_text}
+-- What is written of a race of a script.
+use Rattle.std.specs.Prelude.{◌≡◌, List, length, Result, Ok, Err}
+use Rattle.mh_model.specs.{declared.command.Event.Event, Bytes.{Text, line_text}, Limits.most_entries}
+use Rattle.mh_model.specs.{Races.{IsRaced, IsRacedFull, IsRaceBegun}, Replies.bad_line_text}
 use Rattle.mh_model.specs.Script.{Meaning, Reading, BadLine, Means, reading}
-use Rattle.mh_text.specs.Stream.{AppendsBeginning}
-use Rattle.mh_judging.specs.OfScript.End.{End}
-use Rattle.mh_judging.specs.OfScript.End.TheVariants.{Done, Refused}
-use Rattle.mh_judging.specs.OfScript.ScriptFault.{ScriptFault}
-use Rattle.mh_judging.specs.OfScript.ScriptFault.TheVariants.{Read, NoMemory, HistoryFull}
-use Rattle.mh_judging.specs.OfScript.Promised.{IsPromisedText, WritesPrefix}
-use Rattle.mh_judging.specs.OfScript.Run.{Device, HasReason, TakesToRun}
-use Rattle.mh_judging.specs.OfScript.Texts.{Blames, IsTextOf, LeavesSource, WantsMemory, Writes}
-use Rattle.mh_judging.specs.RunHistory.{AreRecorded}
+use Rattle.mh_text.specs.Devices.{Device}
+use Rattle.mh_reasons.specs.Reasons.{IsReason}
+use Rattle.mh_script.specs.{declared.end.End.End, declared.end.End.TheVariants.{Done, Refused}}
+use Rattle.mh_script.specs.declared.fault.ScriptFault.{ScriptFault}
+use Rattle.mh_script.specs.declared.fault.ScriptFault.TheVariants.{Write, NoMemory, HistoryFull}
+use Rattle.mh_script.specs.{Histories.AreRecorded, Promised.IsPromisedText, Run.TakesToRun, Tasks.IsDone}
 use Rattle.mh_race.specs.Racing.{BeginsItsCalls, MakesTheCalls}
-
--- the text of a source means a script, and what a race of it leaves was written, and nothing else
-pub record Races (Raced : Meaning → Text → Type 0) (known old new : Option Text) : Type 0 where
-  pub text : Text
-  pub is_text : IsTextOf known text
-  pub script : Meaning
-  pub means : reading text ≡ Means script
-  pub wrote : Writes (Raced script) old new
-
--- the text of a source is refused, and the line that says so was written, and nothing else
-pub record RefusesScript (known old new : Option Text) (line : ℕ) : Type 0 where
-  pub text : Text
-  pub is_text : IsTextOf known text
-  pub refused : reading text ≡ BadLine line
-  pub wrote : Appends old new (line_text (bad_line_text line))
-
--- what a race that ended well has read and written
-abbrev pub RaceEndsAs : Option Text → Option Text → Option Text → End → Type 0
-RaceEndsAs known old new Done = Races IsRaced known old new
-RaceEndsAs known old new (Refused refusal) = RefusesScript known old new refusal.line
-
--- a prefix of what a race of a script leaves was written, or of the line that refuses the script
-abbrev pub BeginsRaceOf : Reading Meaning → Option Text → Option Text → Type 0
-BeginsRaceOf (BadLine line) old new = AppendsBeginning old new (line_text (bad_line_text line))
-BeginsRaceOf (Means script) old new = Writes (IsRaceBegun script) old new
-
--- a prefix was written of what a race leaves of the text of a source, or of the line that refuses it
-pub record BeginsToRace (known old new : Option Text) : Type 0 where
-  pub text : Text
-  pub is_text : IsTextOf known text
-  pub begun : BeginsRaceOf (reading text) old new
-
--- The promise ------------------------------------------------------------------------------------
 
 -- a text is a history of events that have such calls of each seat of the script, and shows the replies of an outcome that keeps the promise of these events
 pub record IsPromisedRace (Calls : List Event → List Event → Type 0) (script : Meaning) (text : Text) : Type 0 where
@@ -61,30 +21,25 @@ pub record IsPromisedRace (Calls : List Event → List Event → Type 0) (script
 abbrev pub FillsAHistory : List Event → List Event → Type 0
 FillsAHistory events done = (length done ≡ most_entries) × BeginsItsCalls events done
 
--- the source has a text, and if that is a script, a prefix of such a history of first calls was written
-pub record BeginsPromisedRace (known old new : Option Text) : Type 0 where
-  pub text : Text
-  pub is_text : IsTextOf known text
-  pub begun : (script : Meaning) → reading text ≡ Means script → WritesPrefix (IsPromisedRace BeginsItsCalls script) old new
+-- what is to be written of a race that was cut short: what one leaves whose seats made the first of their calls, or the line that refuses the script
+abbrev pub IsBegunRace : Reading Meaning → Text → Type 0
+IsBegunRace (BadLine line) out = out ≡ line_text (bad_line_text line)
+IsBegunRace (Means script) out = IsRaceBegun script out × IsPromisedRace BeginsItsCalls script out
 
--- What a race that ended so promises of a script that is not refused. The history that was written shows the replies of an outcome that keeps the promise
--- of all calls of the script, or of 1,000,000 of them. If memory or a device cut the race short, a prefix of such a history was written
-abbrev pub KeepsRacePromise : (known old new : Option Text) → Result End ScriptFault → Type 0
-KeepsRacePromise known old new (Ok Done) = Races (IsPromisedRace MakesTheCalls) known old new
-KeepsRacePromise known old new (Ok (Refused refusal)) = Unit {0}
-KeepsRacePromise known old new (Err HistoryFull) = Races (IsPromisedRace FillsAHistory) known old new
-KeepsRacePromise known old new (Err fault) = BeginsPromisedRace known old new
+-- a text is a script, of whose race this is to be written
+abbrev pub IsRaceOf : Text → (Meaning → Type 0) → Type 0
+IsRaceOf text Holds = (script : Meaning) × (reading text ≡ Means script) × Holds script
 
--- Runs -------------------------------------------------------------------------------------------
+-- What is to be written of a text if its race ended so. The history shows the replies of an outcome that keeps the promise of all calls of the script, of
+-- 1,000,000 of them, or if memory or a device cut the race short of the first ones. A script is refused with its first bad line, for a reason that is true
+abbrev pub IsRaceOutput : Text → Result End ScriptFault → Text → Type 0
+IsRaceOutput text (Ok Done) out = IsRaceOf text (λ script. IsRaced script out × IsPromisedRace MakesTheCalls script out)
+IsRaceOutput text (Ok (Refused refusal)) out = (reading text ≡ BadLine refusal.line) × IsReason text refusal.line refusal.reason × (out ≡ line_text (bad_line_text refusal.line))
+IsRaceOutput text (Err HistoryFull) out = IsRaceOf text (λ script. IsRacedFull script out × IsPromisedRace FillsAHistory script out)
+IsRaceOutput text (Err NoMemory) out = TakesToRun text × IsBegunRace (reading text) out
+IsRaceOutput text (Err Write) out = IsBegunRace (reading text) out
+IsRaceOutput text (Err fault) out = ⊥
 
--- A race of the script of a source into a sink, how it ended, and what it promises
-pub record IsRaceRun (source source' sink sink' : Device) (ended : Result End ScriptFault) : Type 0 where
-  pub promise : KeepsRacePromise source.bytes sink.bytes sink'.bytes ended
-  pub ends : IfOk ended (RaceEndsAs source.bytes sink.bytes sink'.bytes)
-  pub reason : IfOk ended (HasReason source.bytes)
-  pub begun : OnErr ended (BeginsToRace source.bytes sink.bytes sink'.bytes)
-  pub full : IsErrOf ended HistoryFull → Races IsRacedFull source.bytes sink.bytes sink'.bytes
-  pub unread : IsErrOf ended Read → Keeps sink.bytes sink'.bytes
-  pub memory : IsErrOf ended NoMemory → WantsMemory TakesToRun source.bytes source'.bytes
-  pub taken : LeavesSource 67108864 source.bytes source'.bytes ended
-  pub blames : Blames source.failures source'.failures sink.failures sink'.failures ended
+-- A race of the script of a source into a sink, and how it ended
+abbrev pub IsRaceRun : (source source' sink sink' : Device) → Result End ScriptFault → Type 0
+IsRaceRun = IsDone IsRaceOutput 67108864

@@ -1,19 +1,17 @@
 -- Reading a history up to its first bad line.
 use Rattle.std.proofs.Common.{◌≡◌, ℕ, suc, ◌<◌, ◌≤◌, ◌==◌, nat_lt, Bool, true, false, Option, Some, None, List, [], ◌∷◌, ◌++◌, length, inl, inr, ◌⊎◌, refl, sym, ap, ◌∙◌, append_assoc, length-append, arith}
-use Rattle.std.specs.Prelude.{if◌then◌else◌, codes, IsTrue}
 use Rattle.std.proofs.lemmas.Bool.Decides.{nat_tests}
-use Rattle.mh_model.specs.declared.config.Config.{Config}
-use Rattle.mh_model.specs.declared.history.Version.{Version}
-use Rattle.mh_model.specs.declared.history.Version.TheVariants.{One, Two}
-use Rattle.mh_model.specs.Bytes.{Text, words, is_text, cut_after}
+use Rattle.std.specs.Prelude.{if◌then◌else◌, codes, IsTrue}
+use Rattle.mh_model.specs.{declared.config.Config.Config, declared.history.Version.Version}
+use Rattle.mh_model.specs.{declared.history.Version.TheVariants.{One, Two}, Bytes.{Text, words, is_text, cut_after}}
 use Rattle.mh_model.specs.Script.{Reading, BadLine, reading_map}
 use Rattle.mh_model.specs.HistoryTexts.{entry_of, measured_of, header_of, entries_from, history_of, history_reading, recorded_by, recorded_of, recorded_reading}
 use Rattle.mh_model.proofs.ScriptLemmas.{history_reading-short, recorded_reading-short}
 use Rattle.mh_text.specs.Pieces.{Lines, TakesLine, lines_from}
 use Rattle.mh_text.proofs.PieceLemmas.{empty_left}
 use Rattle.mh_reasons.specs.declared.history_reason.HistoryLineReason.{HistoryLineReason}
-use Rattle.mh_reasons.specs.declared.history_reason.HistoryReason.TheVariants as history
 use Rattle.mh_reasons.specs.HistoryReasons.{IsFirstWrong, IsFirstLineReason, IsEntryWrong, IsEntryReason, IsRefusedAt, most_bytes, IsHistoryReason}
+use Rattle.mh_reasons.specs.declared.history_reason.HistoryReason.{HistoryReason}
 use Rattle.mh_reasons.proofs.ReadLemmas.{map_bad, at_end_bad}
 
 -- Entries ----------------------------------------------------------------------------------------
@@ -22,20 +20,18 @@ abbrev entry_before : {X : Type 0} → Option X → ℕ → Reading (List X) →
 entry_before o k more = elim o [ Some entry ↦ reading_map (λ entries. entry ∷ entries) more | None ↦ BadLine k ]
 
 entry_next : {X : Type 0} (o : Option X) (k n : ℕ) (more : Reading (List X)) → entry_before o k more ≡ BadLine n → ((o ≡ None) × (k ≡ n)) ⊎ (more ≡ BadLine n)
-entry_next None k n more bad = let same : k ≡ n = cc in inl (refl, same)
-entry_next (Some entry) k n more bad = inr (map_bad _ _ n bad)
+entry_next o k n more bad = grind arith
 
 entries_next : {X : Type 0} (read : Text → Option X) (k n : ℕ) (line : Text) (lines : List Text) (rest : Text) → entries_from read k (line ∷ lines) rest ≡ BadLine n
     → ((read line ≡ None) × (k ≡ n)) ⊎ (entries_from read (suc k) lines rest ≡ BadLine n)
 entries_next read k n line lines rest bad = entry_next (read line) k n (entries_from read (suc k) lines rest) bad
 
 later_by : {X : Type 0} (o : Option X) (k n : ℕ) (more : Reading (List X)) → ((o ≡ None) × (k ≡ n)) ⊎ (more ≡ BadLine n) → (more ≡ BadLine n → suc k ≤ n) → k ≤ n
-later_by o k n more (inl here) after = omega (arith, here.1)
-later_by o k n more (inr bad) after = omega (arith, after bad)
+later_by o k n more is after = grind arith
 
 entries_later : {X : Type 0} (read : Text → Option X) (k n : ℕ) (lines : List Text) (rest : Text) → entries_from read k lines rest ≡ BadLine n → k ≤ n
-entries_later {X} read k n [] rest bad = let end = at_end_bad {X = List X} [] k n rest bad in omega (arith, end.0)
-entries_later read k n (line ∷ lines) rest bad = later_by (read line) k n (entries_from read (suc k) lines rest) (entries_next read k n line lines rest bad) (entries_later read (suc k) n lines rest)
+entries_later {X} read k n [] rest bad = grind arith
+entries_later read k n (line ∷ lines) rest bad = grind (arith, later_by, entries_next, entries_later read (suc k) n lines rest)
 
 -- of these lines, from line k on, line n is the first that is no entry
 abbrev pub IsBadEntry : Version → ℕ → List Text → Text → ℕ → Type 0
@@ -43,20 +39,16 @@ IsBadEntry One k lines rest n = entries_from (λ line. entry_of One (words line)
 IsBadEntry Two k lines rest n = entries_from (λ line. measured_of (words line)) k lines rest ≡ BadLine n
 
 bad_later : (version : Version) (k n : ℕ) (lines : List Text) (rest : Text) → IsBadEntry version k lines rest n → k ≤ n
-bad_later One k n lines rest bad = entries_later (λ line. entry_of One (words line)) k n lines rest bad
-bad_later Two k n lines rest bad = entries_later (λ line. measured_of (words line)) k n lines rest bad
+bad_later version k n lines rest bad = grind (arith, entries_later)
 
 bad_next : (version : Version) (k n : ℕ) (line : Text) (lines : List Text) (rest : Text) → IsBadEntry version k (line ∷ lines) rest n → (IsEntryWrong version line × (k ≡ n)) ⊎ IsBadEntry version (suc k) lines rest n
-bad_next One k n line lines rest bad = entries_next (λ line. entry_of One (words line)) k n line lines rest bad
-bad_next Two k n line lines rest bad = entries_next (λ line. measured_of (words line)) k n line lines rest bad
+bad_next version k n line lines rest bad = search (arith, entries_next)
 
 bad_here : (version : Version) (k n : ℕ) (line : Text) (lines : List Text) (rest : Text) → (IsEntryWrong version line × (k ≡ n)) ⊎ IsBadEntry version (suc k) lines rest n → k ≡ n → IsEntryWrong version line
-bad_here version k n line lines rest (inl wrong) here = wrong.0
-bad_here version k n line lines rest (inr bad) here = absurd (omega (arith, bad_later version (suc k) n lines rest bad))
+bad_here version k n line lines rest is here = grind (arith, bad_later)
 
 bad_on : (version : Version) (k n : ℕ) (line : Text) (lines : List Text) (rest : Text) → (IsEntryWrong version line × (k ≡ n)) ⊎ IsBadEntry version (suc k) lines rest n → (k ≡ n → ⊥) → IsBadEntry version (suc k) lines rest n
-bad_on version k n line lines rest (inl wrong) other = absurd (other wrong.1)
-bad_on version k n line lines rest (inr bad) other = bad
+bad_on version k n line lines rest is other = grind arith
 
 -- The first line ---------------------------------------------------------------------------------
 
@@ -81,47 +73,37 @@ IsCutRefused One pieces rest n = history_of (record { pieces = pieces; rest = re
 IsCutRefused Two pieces rest n = recorded_of (record { pieces = pieces; rest = rest }) ≡ BadLine n
 
 cut_refused : (version : Version) (text : Text) (n : ℕ) → length text ≤ most_bytes version → IsRefusedAt version text n → IsCutRefused version (cut_after 10 text).pieces (cut_after 10 text).rest n
-cut_refused One text n short bad = sym (history_reading-short text short) ∙ bad
-cut_refused Two text n short bad = sym (recorded_reading-short text short) ∙ bad
+cut_refused version text n short bad = grind (arith, history_reading-short, recorded_reading-short)
 
 none_refused : (version : Version) (rest : Text) (n : ℕ) → IsCutRefused version [] rest n → n ≡ 1
-none_refused One rest n bad = cc
-none_refused Two rest n bad = cc
+none_refused version rest n bad = grind arith
 
 first_by : (is : Bool) (n : ℕ) (line : Text) (lines : List Text) (rest : Text) → is_text line (codes "history 1") ≡ is → IsCutRefused One (line ∷ lines) rest n → (IsFirstWrong One line × (n ≡ 1)) ⊎ IsBadEntry One 2 lines rest n
-first_by true n line lines rest is bad = let next = rw is at bad in inr next
-first_by false n line lines rest is bad = let next = rw is at bad in let same : n ≡ 1 = cc in inl (is, same)
+first_by is n line lines rest e bad = grind arith
 
 header_next : (config : Option Config) (n : ℕ) (lines : List Text) (rest : Text) → recorded_by config lines rest ≡ BadLine n → ((config ≡ None) × (n ≡ 1)) ⊎ IsBadEntry Two 2 lines rest n
-header_next None n lines rest bad = let same : n ≡ 1 = cc in inl (refl, same)
-header_next (Some config) n lines rest bad = inr (map_bad _ _ n bad)
+header_next config n lines rest bad = grind arith
 
 first_next : (version : Version) (n : ℕ) (line : Text) (lines : List Text) (rest : Text) → IsCutRefused version (line ∷ lines) rest n → (IsFirstWrong version line × (n ≡ 1)) ⊎ IsBadEntry version 2 lines rest n
-first_next One n line lines rest bad = first_by (is_text line (codes "history 1")) n line lines rest refl bad
-first_next Two n line lines rest bad = header_next (header_of (words line)) n lines rest bad
+first_next version n line lines rest bad = grind arith
 
 first_here : (version : Version) (n : ℕ) (line : Text) (lines : List Text) (rest : Text) → (IsFirstWrong version line × (n ≡ 1)) ⊎ IsBadEntry version 2 lines rest n → n ≡ 1 → IsFirstWrong version line
-first_here version n line lines rest (inl wrong) one = wrong.0
-first_here version n line lines rest (inr bad) one = absurd (omega (arith, bad_later version 2 n lines rest bad))
+first_here version n line lines rest is one = grind (arith, bad_later)
 
 first_on : (version : Version) (n : ℕ) (line : Text) (lines : List Text) (rest : Text) → (IsFirstWrong version line × (n ≡ 1)) ⊎ IsBadEntry version 2 lines rest n → (n ≡ 1 → ⊥) → IsBadEntry version 2 lines rest n
-first_on version n line lines rest (inl wrong) other = absurd (other wrong.1)
-first_on version n line lines rest (inr bad) other = bad
+first_on version n line lines rest is other = grind arith
 
 -- A text -----------------------------------------------------------------------------------------
 
 taken_refused : (version : Version) (text : Text) (bad : ℕ) (new : Lines) (n : ℕ) (line : Text) → length text ≤ most_bytes version → IsRefusedAt version text bad → TakesLine (lines_from 1 text) new n line
     → IsCutRefused version (line ∷ new.lines) (cut_after 10 text).rest bad
-taken_refused version text bad new n line short is takes =
-    let pieces : (cut_after 10 text).pieces ≡ line ∷ new.lines = takes.taken in
-    let whole = cut_refused version text bad short is in
-    rw pieces at whole
+taken_refused version text bad new n line short is takes = grind (arith, cut_refused)
 
 pub wrong_first : (version : Version) (text : Text) (bad : ℕ) (new : Lines) (n : ℕ) (line : Text) → length text ≤ most_bytes version → IsRefusedAt version text bad → TakesLine (lines_from 1 text) new n line → bad ≡ 1 → IsFirstWrong version line
 wrong_first version text bad new n line short is takes one =
     first_here version bad line new.lines (cut_after 10 text).rest (first_next version bad line new.lines (cut_after 10 text).rest (taken_refused version text bad new n line short is takes)) one
 
-pub told_first : (version : Version) (text : Text) (bad : ℕ) (new : Lines) (n : ℕ) (line : Text) (r : HistoryLineReason) → TakesLine (lines_from 1 text) new n line → bad ≡ 1 → IsFirstLineReason version line r → IsHistoryReason version text bad (history.Line r)
+pub told_first : (version : Version) (text : Text) (bad : ℕ) (new : Lines) (n : ℕ) (line : Text) (r : HistoryLineReason) → TakesLine (lines_from 1 text) new n line → bad ≡ 1 → IsFirstLineReason version line r → IsHistoryReason version text bad (HistoryReason.Line r)
 told_first version text bad new n line r takes one is = (line, inl ((one, (new.lines, takes.taken)), is))
 
 -- entries were read up to here, and the bad one is still to come
@@ -159,28 +141,18 @@ entered_more version text bad mid new n line done takes other =
     }
 
 pub entered_wrong : (version : Version) (text : Text) (bad : ℕ) (mid new : Lines) (n : ℕ) (line : Text) → Entered version text bad mid → TakesLine mid new n line → n ≡ bad → IsEntryWrong version line
-entered_wrong version text bad mid new n line done takes here =
-    let coming : IsBadEntry version mid.number (line ∷ new.lines) mid.rest bad = rw takes.taken at done.coming in
-    bad_here version mid.number bad line new.lines mid.rest (bad_next version mid.number bad line new.lines mid.rest coming) (sym takes.numbered ∙ here)
+entered_wrong version text bad mid new n line done takes here = grind (arith, bad_here, bad_next)
 
 pub entered_line : (version : Version) (text : Text) (bad : ℕ) (mid new : Lines) (n : ℕ) (line : Text) (r : HistoryLineReason) → Entered version text bad mid → TakesLine mid new n line → n ≡ bad
-    → IsEntryReason version line r → IsHistoryReason version text bad (history.Line r)
-entered_line version text bad mid new n line r done takes here is =
-    (line, inr ((done.first, done.before, new.lines, done.lines ∙ rw takes.taken refl, sym here ∙ (takes.numbered ∙ done.numbered)), is))
+    → IsEntryReason version line r → IsHistoryReason version text bad (HistoryReason.Line r)
+entered_line version text bad mid new n line r done takes here is = grind arith
 
 zero_none : (n : ℕ) → IsTrue (suc n == 0) → ⊥
 zero_none n is = absurd (grind (arith, nat_tests))
 
-pub no_line : (version : Version) (text : Text) (bad : ℕ) → length text ≤ most_bytes version → IsRefusedAt version text bad → (lines_from 1 text).lines ≡ [] → (text ≡ [] → ⊥) → IsHistoryReason version text bad history.NoNewline
+pub no_line : (version : Version) (text : Text) (bad : ℕ) → length text ≤ most_bytes version → IsRefusedAt version text bad → (lines_from 1 text).lines ≡ [] → (text ≡ [] → ⊥) → IsHistoryReason version text bad HistoryReason.NoNewline
 no_line version [] bad short is none some = absurd (some refl)
-no_line version (byte ∷ bytes) bad short is none some =
-    let pieces : (cut_after 10 (byte ∷ bytes)).pieces ≡ [] = none in
-    let whole = cut_refused version (byte ∷ bytes) bad short is in
-    let one : bad ≡ 1 = none_refused version (cut_after 10 (byte ∷ bytes)).rest bad (rw pieces at whole) in
-    (one ∙ ap (λ (l : List Text). suc (length l)) (sym pieces), λ nothing. zero_none (length bytes) ((empty_left 1 (byte ∷ bytes)).1 (nothing, pieces)))
+no_line version (byte ∷ bytes) bad short is none some = grind (arith, cut_refused version (byte ∷ bytes) bad short is, empty_left 1 (byte ∷ bytes))
 
 pub empty_bad : (version : Version) (text : Text) (bad : ℕ) → length text ≤ most_bytes version → IsRefusedAt version text bad → text ≡ [] → bad ≡ 1
-empty_bad version text bad short is none =
-    let pieces : (cut_after 10 text).pieces ≡ [] = ap (λ (t : Text). (cut_after 10 t).pieces) none in
-    let whole = cut_refused version text bad short is in
-    none_refused version (cut_after 10 text).rest bad (rw pieces at whole)
+empty_bad version text bad short is none = grind (arith, cut_refused, none_refused)

@@ -1,26 +1,21 @@
 -- Reading a script up to its first bad line.
 use Rattle.std.proofs.Common.{◌≡◌, ◌≢◌, ℕ, suc, ◌≤◌, ◌||◌, not, ◌&&◌, Bool, true, false, Option, Some, None, List, [], ◌∷◌, ◌++◌, length, map, inl, inr, ◌⊎◌, refl, sym, ap, ◌∙◌, append_assoc, length-append, arith}
 use Rattle.std.specs.List.{list_all}
-use Rattle.mh_model.specs.declared.config.Config.{Config}
-use Rattle.mh_model.specs.declared.command.Event.{Event}
-use Rattle.mh_model.specs.Bytes.{Text, words, cut_after}
+use Rattle.mh_model.specs.{declared.config.Config.Config, declared.command.Event.Event, Bytes.{Text, words, cut_after}}
 use Rattle.mh_model.specs.Script.{Reading, BadLine, Means, reading_map, Line, Blank, Calls, Asks, Wrong, line_of, is_blank, config_words, with_name, at_end, after_config, events_from, script_from, reading}
 use Rattle.mh_text.specs.Pieces.{Lines, TakesLine, lines_from}
 use Rattle.mh_text.proofs.ScriptLemmas.{reading_left}
-use Rattle.mh_reasons.specs.declared.reason.LineReason.{LineReason}
-use Rattle.mh_reasons.specs.declared.reason.ScriptReason.TheVariants as reason
-use Rattle.mh_reasons.specs.Reasons.{IsWrong, IsLineReason, IsReason}
+use Rattle.mh_reasons.specs.{declared.reason.LineReason.LineReason, Reasons.{IsWrong, IsLineReason, IsReason}}
+use Rattle.mh_reasons.specs.declared.reason.ScriptReason.{ScriptReason}
 use Rattle.mh_reasons.proofs.WordLemmas.{wrong_full}
 
 -- Bad lines --------------------------------------------------------------------------------------
 
 pub map_bad : {X Y : Type 0} (f : X → Y) (r : Reading X) (n : ℕ) → reading_map f r ≡ BadLine n → r ≡ BadLine n
-map_bad f (BadLine m) n bad = let same : m ≡ n = cc in ap BadLine same
-map_bad f (Means x) n bad = cc
+map_bad f r n bad = grind arith
 
 pub at_end_bad : {X : Type 0} (x : X) (k n : ℕ) (rest : Text) → at_end x k rest ≡ BadLine n → (k ≡ n) × (rest ≢ [])
-at_end_bad x k n [] bad = cc
-at_end_bad x k n (byte ∷ bytes) bad = let same : k ≡ n = cc in (same, λ none. cc)
+at_end_bad x k n rest bad = grind arith
 
 -- the lines after the configuration, from line k on, the first bad one of which is line n
 pub record EventsBad (k n : ℕ) (lines : List Text) (rest : Text) : Type 0 where
@@ -30,35 +25,29 @@ pub record EventsBad (k n : ℕ) (lines : List Text) (rest : Text) : Type 0 wher
 -- what a first line that isn't wrong leaves
 events_next : (names : List Text) (k n : ℕ) (line : Line) (lines : List Text) (rest : Text) → events_from names k (line ∷ map line_of lines) rest ≡ BadLine n
     → ((line ≡ Wrong) × (k ≡ n)) ⊎ EventsBad (suc k) n lines rest
-events_next names k n Blank lines rest bad = inr (record { names = names; bad = bad })
-events_next names k n (Calls name command) lines rest bad = inr (record { names = with_name names name; bad = map_bad _ _ n bad })
-events_next names k n (Asks control) lines rest bad = inr (record { names = names; bad = map_bad _ _ n bad })
-events_next names k n Wrong lines rest bad = let same : k ≡ n = cc in inl (refl, same)
+events_next names k n line lines rest bad = grind arith
 
 later_by : (k n : ℕ) (line : Line) (lines : List Text) (rest : Text) → ((line ≡ Wrong) × (k ≡ n)) ⊎ EventsBad (suc k) n lines rest
     → ((names : List Text) → events_from names (suc k) (map line_of lines) rest ≡ BadLine n → suc k ≤ n) → k ≤ n
-later_by k n line lines rest (inl here) more = omega (arith, here.1)
-later_by k n line lines rest (inr after) more = omega (arith, more after.names after.bad)
+later_by k n line lines rest is more = grind arith
 
 -- a bad line is none before those that are read
 events_later : (names : List Text) (k n : ℕ) (lines : List Text) (rest : Text) → events_from names k (map line_of lines) rest ≡ BadLine n → k ≤ n
-events_later names k n [] rest bad = let end = at_end_bad {X = List Event} [] k n rest bad in omega (arith, end.0)
+events_later names k n [] rest bad = grind arith
 events_later names k n (line ∷ lines) rest bad = later_by k n (line_of line) lines rest (events_next names k n (line_of line) lines rest bad) (λ seen. events_later seen (suc k) n lines rest)
 
 config_next : (o : Option Config) (k n : ℕ) (lines : List Text) (rest : Text) → after_config o k lines rest ≡ BadLine n → ((o ≡ None) × (k ≡ n)) ⊎ EventsBad (suc k) n lines rest
-config_next None k n lines rest bad = let same : k ≡ n = cc in inl (refl, same)
-config_next (Some config) k n lines rest bad = inr (record { names = []; bad = map_bad _ _ n bad })
+config_next o k n lines rest bad = grind arith
 
 script_blank : (k n : ℕ) (line : Text) (lines : List Text) (rest : Text) → is_blank line ≡ true → script_from k (line ∷ lines) rest ≡ BadLine n → script_from (suc k) lines rest ≡ BadLine n
 script_blank k n line lines rest is bad = rw is at bad
 
 script_full : (k n : ℕ) (line : Text) (lines : List Text) (rest : Text) → is_blank line ≡ false → script_from k (line ∷ lines) rest ≡ BadLine n
     → ((config_words (words line) ≡ None) × (k ≡ n)) ⊎ EventsBad (suc k) n lines rest
-script_full k n line lines rest is bad = let next = rw is at bad in config_next (config_words (words line)) k n lines rest next
+script_full k n line lines rest is bad = grind arith
 
 full_later : (k n : ℕ) (o : Option Config) (lines : List Text) (rest : Text) → ((o ≡ None) × (k ≡ n)) ⊎ EventsBad (suc k) n lines rest → k ≤ n
-full_later k n o lines rest (inl here) = omega (arith, here.1)
-full_later k n o lines rest (inr after) = omega (arith, events_later after.names (suc k) n lines rest after.bad)
+full_later k n o lines rest is = grind (arith, events_later)
 
 script_later_by : (is : Bool) (k n : ℕ) (line : Text) (lines : List Text) (rest : Text) → is_blank line ≡ is → script_from k (line ∷ lines) rest ≡ BadLine n
     → (script_from (suc k) lines rest ≡ BadLine n → suc k ≤ n) → k ≤ n
@@ -84,8 +73,7 @@ script_wrong false k n line lines rest is bad here = (is, none_here (script_full
   none_here (inr after) = absurd (omega (arith, events_later after.names (suc k) n lines rest after.bad))
 
 event_wrong : (k n : ℕ) (line : Line) (lines : List Text) (rest : Text) → ((line ≡ Wrong) × (k ≡ n)) ⊎ EventsBad (suc k) n lines rest → k ≡ n → line ≡ Wrong
-event_wrong k n line lines rest (inl wrong) here = wrong.0
-event_wrong k n line lines rest (inr after) here = absurd (omega (arith, events_later after.names (suc k) n lines rest after.bad))
+event_wrong k n line lines rest is here = grind (arith, events_later)
 
 -- the bad line is wrong
 bad_wrong : (configured : Bool) (k n : ℕ) (line : Text) (lines : List Text) (rest : Text) → IsBadFrom configured k (line ∷ lines) rest n → k ≡ n → IsWrong configured line
@@ -93,24 +81,17 @@ bad_wrong false k n line lines rest bad here = script_wrong (is_blank line) k n 
 bad_wrong true k n line lines rest bad here = event_wrong k n (line_of line) lines rest (events_next bad.names k n (line_of line) lines rest bad.bad) here
 
 pub wrong_nonblank : (configured : Bool) (line : Text) → IsWrong configured line → is_blank line ≡ false
-wrong_nonblank false line wrong = wrong.0
-wrong_nonblank true line wrong = wrong_full line wrong
+wrong_nonblank configured line wrong = grind arith
 
 script_on : (is : Bool) (k n : ℕ) (line : Text) (lines : List Text) (rest : Text) → is_blank line ≡ is → script_from k (line ∷ lines) rest ≡ BadLine n → (k ≡ n → ⊥) → IsBadFrom (not is) (suc k) lines rest n
-script_on true k n line lines rest is bad other = script_blank k n line lines rest is bad
-script_on false k n line lines rest is bad other = after_here (script_full k n line lines rest is bad) where
-  after_here : ((config_words (words line) ≡ None) × (k ≡ n)) ⊎ EventsBad (suc k) n lines rest → EventsBad (suc k) n lines rest
-  after_here (inl none) = absurd (other none.1)
-  after_here (inr after) = after
+script_on is k n line lines rest e bad other = grind arith
 
 event_on : (k n : ℕ) (line : Line) (lines : List Text) (rest : Text) → ((line ≡ Wrong) × (k ≡ n)) ⊎ EventsBad (suc k) n lines rest → (k ≡ n → ⊥) → EventsBad (suc k) n lines rest
-event_on k n line lines rest (inl wrong) other = absurd (other wrong.1)
-event_on k n line lines rest (inr after) other = after
+event_on k n line lines rest is other = grind arith
 
 -- before the bad line one more line is read
 bad_on : (configured : Bool) (k n : ℕ) (line : Text) (lines : List Text) (rest : Text) → IsBadFrom configured k (line ∷ lines) rest n → (k ≡ n → ⊥) → IsBadFrom (configured || not (is_blank line)) (suc k) lines rest n
-bad_on false k n line lines rest bad other = script_on (is_blank line) k n line lines rest refl bad other
-bad_on true k n line lines rest bad other = event_on k n (line_of line) lines rest (events_next bad.names k n (line_of line) lines rest bad.bad) other
+bad_on configured k n line lines rest bad other = grind (arith, script_on, event_on, events_next)
 
 -- A text -----------------------------------------------------------------------------------------
 
@@ -124,7 +105,7 @@ pub record Reached (text : Text) (bad : ℕ) (configured : Bool) (left : Lines) 
   pub coming : IsBadFrom configured left.number left.lines left.rest bad
 
 pub reached_none : (text : Text) (bad : ℕ) → length text ≤ 67108864 → reading text ≡ BadLine bad → Reached text bad false (lines_from 1 text)
-reached_none text bad short is = record { before = []; lines = refl; after = refl; numbered = refl; first = refl; coming = sym (reading_left text short) ∙ is }
+reached_none text bad short is = grind (arith, reading_left)
 
 all_blank : (xs : List Text) (line : Text) → list_all is_blank (xs ++ line ∷ []) ≡ list_all is_blank xs && is_blank line
 all_blank [] line = all_one (is_blank line) where
@@ -137,9 +118,7 @@ all_blank (x ∷ xs) line = rw (all_blank xs line) (grouped (is_blank x) (list_a
   grouped false b c = refl
 
 none_more : (configured is : Bool) → not configured && is ≡ not (configured || not is)
-none_more true is = refl
-none_more false true = refl
-none_more false false = refl
+none_more configured is = grind arith
 
 pub reached_more : (text : Text) (bad : ℕ) (configured : Bool) (mid new : Lines) (n : ℕ) (line : Text) → Reached text bad configured mid → TakesLine mid new n line → (n ≡ bad → ⊥)
     → Reached text bad (configured || not (is_blank line)) new
@@ -155,12 +134,10 @@ reached_more text bad configured mid new n line done takes other =
     }
 
 pub reached_wrong : (text : Text) (bad : ℕ) (configured : Bool) (mid new : Lines) (n : ℕ) (line : Text) → Reached text bad configured mid → TakesLine mid new n line → n ≡ bad → IsWrong configured line
-reached_wrong text bad configured mid new n line done takes here =
-    let coming : IsBadFrom configured mid.number (line ∷ new.lines) mid.rest bad = rw takes.taken at done.coming in
-    bad_wrong configured mid.number bad line new.lines mid.rest coming (sym takes.numbered ∙ here)
+reached_wrong text bad configured mid new n line done takes here = grind (arith, bad_wrong)
 
 pub reached_line : (text : Text) (bad : ℕ) (configured : Bool) (mid new : Lines) (n : ℕ) (line : Text) (r : LineReason) → Reached text bad configured mid → TakesLine mid new n line → n ≡ bad
-    → IsLineReason configured line r → IsReason text bad (reason.Line r)
+    → IsLineReason configured line r → IsReason text bad (ScriptReason.Line r)
 reached_line text bad configured mid new n line r done takes here is = (
   configured,
   line,

@@ -1,8 +1,6 @@
 -- Lines with reasons are outside the grammar.
 use Rattle.std.specs.Prelude.{◌≡◌, Bool, false}
-use Rattle.mh_model.specs.declared.history.Version.{Version}
-use Rattle.mh_model.specs.Bytes.{Text}
-use Rattle.mh_model.specs.Script.{is_blank}
+use Rattle.mh_model.specs.{declared.history.Version.Version, Bytes.Text, Script.is_blank}
 use Rattle.mh_reasons.specs.declared.history_reason.HistoryLineReason.{HistoryLineReason}
 use Rattle.mh_reasons.specs.declared.reason.LineReason.{LineReason}
 use Rattle.mh_reasons.specs.HistoryReasons.{IsEntryReason, IsEntryWrong, IsFirstLineReason, IsFirstWrong}

@@ -1,10 +1,8 @@
 -- Bytes of a line that are out of place.
 use Rattle.std.specs.Prelude.{◌≡◌, ℕ, suc, ◌-◌, ◌<◌, nat_lt, Bool, ◌||◌, Some, None, length, slice_index, find}
 use Rattle.mh_model.specs.Bytes.{Text}
-use Rattle.mh_reasons.specs.declared.byte_fault.ByteFault.{ByteFault}
-use Rattle.mh_reasons.specs.declared.byte_fault.ByteFault.TheVariants.{Stray, Space}
-use Rattle.mh_reasons.specs.declared.byte_fault.SpacePlace.{SpacePlace}
-use Rattle.mh_reasons.specs.declared.byte_fault.SpacePlace.TheVariants.{Start, End, Twice}
+use Rattle.mh_reasons.specs.declared.byte_fault.{ByteFault.ByteFault, ByteFault.TheVariants.{Stray, Space}}
+use Rattle.mh_reasons.specs.declared.byte_fault.{SpacePlace.SpacePlace, SpacePlace.TheVariants.{Start, End, Twice}}
 
 -- no printable ASCII
 abbrev pub is_stray : ℕ → Bool

@@ -2,8 +2,7 @@
 use Rattle.std.specs.Prelude.{◌≡◌, ℕ, suc, ◌<◌, Bool, true, false, ◌&&◌, Some, [], ◌∷◌, length, slice_index}
 use Rattle.std.specs.List.{list_all}
 use Rattle.mh_model.specs.Bytes.{Text, is_digit, is_numeral, value_after, number}
-use Rattle.mh_reasons.specs.declared.number_fault.NumberFault.{NumberFault}
-use Rattle.mh_reasons.specs.declared.number_fault.NumberFault.TheVariants.{NotDigits, LeadingZero, Above}
+use Rattle.mh_reasons.specs.declared.number_fault.NumberFault.{NumberFault, TheVariants.{NotDigits, LeadingZero, Above}}
 
 -- one digit or more
 abbrev pub is_digits : Text → Bool

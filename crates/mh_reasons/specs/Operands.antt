@@ -1,13 +1,8 @@
 -- What is wrong with the words after a verb.
 use Rattle.std.specs.Prelude.{◌≡◌, ◌≢◌, ℕ, ◌<◌, Bool, false, Option, Some, None, List, length, slice_index, slice_index_or, []}
-use Rattle.mh_model.specs.Bytes.{Text, numbers}
-use Rattle.mh_model.specs.Forms.{are_below}
-use Rattle.mh_reasons.specs.declared.quoted.Quoted.{Quoted}
-use Rattle.mh_reasons.specs.declared.number_fault.NumberFault.{NumberFault}
-use Rattle.mh_reasons.specs.declared.verb.Verb.{Verb}
-use Rattle.mh_reasons.specs.declared.reason.LineReason.{LineReason}
-use Rattle.mh_reasons.specs.declared.reason.LineReason.TheVariants as reason
-use Rattle.mh_reasons.specs.Quotes.{Quotes}
+use Rattle.mh_model.specs.{Bytes.{Text, numbers}, Forms.are_below}
+use Rattle.mh_reasons.specs.{declared.quoted.Quoted.Quoted, declared.number_fault.NumberFault.NumberFault}
+use Rattle.mh_reasons.specs.{declared.verb.Verb.Verb, declared.reason.LineReason.LineReason, Quotes.Quotes}
 use Rattle.mh_reasons.specs.Numbers.{HasNumberFault, IsNumberBelow}
 
 -- numbers that are below bounds, if there are any
@@ -30,6 +25,6 @@ pub record HasOperandFault (bounds : List ℕ) (words : List Text) (quoted : Quo
 
 -- What a reason says of the words after this verb
 abbrev pub IsOperandReason : Verb → List ℕ → List Text → LineReason → Type 0
-IsOperandReason verb bounds words (reason.Operands of) = (of ≡ verb) × (length words ≢ length bounds)
-IsOperandReason verb bounds words (reason.Operand quoted fault) = HasOperandFault bounds words quoted fault
+IsOperandReason verb bounds words (LineReason.Operands of) = (of ≡ verb) × (length words ≢ length bounds)
+IsOperandReason verb bounds words (LineReason.Operand quoted fault) = HasOperandFault bounds words quoted fault
 IsOperandReason verb bounds words _ = ⊥

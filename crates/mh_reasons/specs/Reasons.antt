@@ -1,22 +1,15 @@
 -- Reasons: why the first bad line of a script is outside the grammar.
 use Rattle.std.specs.Prelude.{◌≡◌, ◌≢◌, ℕ, suc, ◌<◌, ◌≤◌, nat_le, Bool, true, false, not, ◌&&◌, ◌||◌, Some, None, List, [], ◌∷◌, ◌++◌, length, slice_index_or, codes}
 use Rattle.std.specs.List.{list_all}
-use Rattle.mh_model.specs.declared.history.Version.{Version}
-use Rattle.mh_model.specs.declared.history.Version.TheVariants.{One, Two}
+use Rattle.mh_model.specs.{declared.history.Version.Version, declared.history.Version.TheVariants.{One, Two}}
 use Rattle.mh_model.specs.Bytes.{Text, cut_after, words, is_text, is_letter, is_digit, is_name, numbers}
-use Rattle.mh_model.specs.Forms.{command_rows, control_rows}
-use Rattle.mh_model.specs.Script.{is_blank, line_of, config_words, Wrong}
+use Rattle.mh_model.specs.{Forms.{command_rows, control_rows}, Script.{is_blank, line_of, config_words, Wrong}}
 use Rattle.mh_model.specs.Limits.{least_quantum}
 use Rattle.mh_reasons.specs.declared.reason.ConfigNumber.{ConfigNumber}
 use Rattle.mh_reasons.specs.declared.reason.ConfigNumber.TheVariants.{Pages, Quantum, Trigger, Every}
-use Rattle.mh_reasons.specs.declared.reason.LineReason.{LineReason}
-use Rattle.mh_reasons.specs.declared.reason.LineReason.TheVariants as reason
-use Rattle.mh_reasons.specs.declared.reason.ScriptReason.{ScriptReason}
-use Rattle.mh_reasons.specs.declared.reason.ScriptReason.TheVariants as script
-use Rattle.mh_reasons.specs.Quotes.{Quotes}
-use Rattle.mh_reasons.specs.Lines.{HasPair, HasByteFault, IsPlain}
-use Rattle.mh_reasons.specs.Verbs.{verb_text, bounds_of, Usage, usage_of}
-use Rattle.mh_reasons.specs.Operands.{HasOperandFault}
+use Rattle.mh_reasons.specs.{declared.reason.LineReason.LineReason, declared.reason.ScriptReason.ScriptReason}
+use Rattle.mh_reasons.specs.{Quotes.Quotes, Lines.{HasPair, HasByteFault, IsPlain}}
+use Rattle.mh_reasons.specs.{Verbs.{verb_text, bounds_of, Usage, usage_of}, Operands.HasOperandFault}
 
 -- Lines ------------------------------------------------------------------------------------------
 
@@ -84,27 +77,27 @@ IsOfControl configured words = (configured ≡ true) × (is_text (word_at words 
 
 -- What a reason says of the words of a line, before and after the configuration, with the controls of a version
 abbrev pub IsWordsReason : Version → Bool → List Text → LineReason → Type 0
-IsWordsReason version configured words (reason.History of) = (configured ≡ false) × IsHistory words of
-IsWordsReason version configured words (reason.NotConfig quoted) =
+IsWordsReason version configured words (LineReason.History of) = (configured ≡ false) × IsHistory words of
+IsWordsReason version configured words (LineReason.NotConfig quoted) =
     (configured ≡ false) × (is_text (word_at words 0) (codes "config") ≡ false) × ((of : Version) → ¬ IsHistory words of) × Quotes (word_at words 0) quoted
-IsWordsReason version configured words (reason.Limit which) = (configured ≡ false) × IsUsage version configured words (λ usage. IsFirstOutside which usage.given)
-IsWordsReason version configured words (reason.LongName quoted) = AreOfSession configured words × (16 < length (word_at words 0)) × Quotes (word_at words 0) quoted
-IsWordsReason version configured words (reason.BadName quoted) = AreOfSession configured words × (length (word_at words 0) ≤ 16) × (is_alphanumeric (word_at words 0) ≡ false) × Quotes (word_at words 0) quoted
-IsWordsReason version configured words (reason.NoCommand quoted) = IsNamedWord configured words × (length words ≡ 1) × Quotes (word_at words 0) quoted
-IsWordsReason version configured words (reason.UnknownCommand quoted) =
+IsWordsReason version configured words (LineReason.Limit which) = (configured ≡ false) × IsUsage version configured words (λ usage. IsFirstOutside which usage.given)
+IsWordsReason version configured words (LineReason.LongName quoted) = AreOfSession configured words × (16 < length (word_at words 0)) × Quotes (word_at words 0) quoted
+IsWordsReason version configured words (LineReason.BadName quoted) = AreOfSession configured words × (length (word_at words 0) ≤ 16) × (is_alphanumeric (word_at words 0) ≡ false) × Quotes (word_at words 0) quoted
+IsWordsReason version configured words (LineReason.NoCommand quoted) = IsNamedWord configured words × (length words ≡ 1) × Quotes (word_at words 0) quoted
+IsWordsReason version configured words (LineReason.UnknownCommand quoted) =
     IsNamedWord configured words × (1 < length words) × (bounds_of command_rows (word_at words 1) ≡ None) × Quotes (word_at words 1) quoted
-IsWordsReason version configured words reason.NoControl = IsOfControl configured words × (length words ≡ 1)
-IsWordsReason version configured words (reason.UnknownControl quoted) =
+IsWordsReason version configured words LineReason.NoControl = IsOfControl configured words × (length words ≡ 1)
+IsWordsReason version configured words (LineReason.UnknownControl quoted) =
     IsOfControl configured words × (1 < length words) × (bounds_of (control_rows version) (word_at words 1) ≡ None) × Quotes (word_at words 1) quoted
-IsWordsReason version configured words (reason.Operands verb) =
+IsWordsReason version configured words (LineReason.Operands verb) =
     IsUsage version configured words (λ usage. (usage.verb ≡ verb_text verb) × (length usage.given ≢ length usage.bounds))
-IsWordsReason version configured words (reason.Operand quoted fault) = IsUsage version configured words (λ usage. HasOperandFault usage.bounds usage.given quoted fault)
+IsWordsReason version configured words (LineReason.Operand quoted fault) = IsUsage version configured words (λ usage. HasOperandFault usage.bounds usage.given quoted fault)
 IsWordsReason version configured words _ = ⊥
 
 -- What a reason says of a line, before and after the configuration. A comment comes first, and bytes come before words
 abbrev pub IsLineReason : Bool → Text → LineReason → Type 0
-IsLineReason configured line reason.Comment = HasPair line 32 35
-IsLineReason configured line (reason.Bytes fault) = (¬ HasPair line 32 35) × HasByteFault line fault
+IsLineReason configured line LineReason.Comment = HasPair line 32 35
+IsLineReason configured line (LineReason.Bytes fault) = (¬ HasPair line 32 35) × HasByteFault line fault
 IsLineReason configured line reason = (¬ HasPair line 32 35) × IsPlain line × IsWordsReason Two configured (words line) reason
 
 -- Scripts ----------------------------------------------------------------------------------------
@@ -120,8 +113,8 @@ pub record StandsAtLine (text : Text) (n : ℕ) (configured : Bool) (line : Text
 
 -- What a reason says of a script and a line of it, counted from 1
 abbrev pub IsReason : Text → ℕ → ScriptReason → Type 0
-IsReason text n script.TooLong = (n ≡ 0) × (67108864 < length text)
-IsReason text n script.NoConfiguration =
+IsReason text n ScriptReason.TooLong = (n ≡ 0) × (67108864 < length text)
+IsReason text n ScriptReason.NoConfiguration =
     (n ≡ suc (length (cut_after 10 text).pieces)) × (list_all is_blank (cut_after 10 text).pieces ≡ true) × ((cut_after 10 text).rest ≡ [])
-IsReason text n script.NoNewline = (n ≡ suc (length (cut_after 10 text).pieces)) × ((cut_after 10 text).rest ≢ [])
-IsReason text n (script.Line reason) = (configured : Bool) × (line : Text) × StandsAtLine text n configured line × IsLineReason configured line reason
+IsReason text n ScriptReason.NoNewline = (n ≡ suc (length (cut_after 10 text).pieces)) × ((cut_after 10 text).rest ≢ [])
+IsReason text n (ScriptReason.Line reason) = (configured : Bool) × (line : Text) × StandsAtLine text n configured line × IsLineReason configured line reason

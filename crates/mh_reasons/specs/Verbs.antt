@@ -1,52 +1,50 @@
 -- The words that numbers follow, and the bounds of these numbers.
 use Rattle.std.specs.Prelude.{◌≡◌, ℕ, Bool, true, false, if◌then◌else◌, Option, Some, None, option_map, List, [], ◌∷◌, codes}
-use Rattle.mh_model.specs.Bytes.{Text, is_text, is_name}
-use Rattle.mh_model.specs.Forms.{Row, u32, u64, command_rows, control_rows}
+use Rattle.mh_model.specs.{Bytes.{Text, is_text, is_name}, Forms.{Row, u32, u64, command_rows, control_rows}}
 use Rattle.mh_model.specs.declared.history.Version.{Version}
 use Rattle.mh_reasons.specs.declared.verb.Verb.{Verb}
-use Rattle.mh_reasons.specs.declared.verb.Verb.TheVariants as verb
 
 -- a verb as it is written
 abbrev pub verb_text : Verb → Text
-verb_text verb.Config = codes "config"
-verb_text verb.New = codes "new"
-verb_text verb.Get = codes "get"
-verb_text verb.Put = codes "put"
-verb_text verb.Copy = codes "copy"
-verb_text verb.Clear = codes "clear"
-verb_text verb.Read = codes "read"
-verb_text verb.Write = codes "write"
-verb_text verb.Same = codes "same"
-verb_text verb.Shape = codes "shape"
-verb_text verb.Post = codes "post"
-verb_text verb.Take = codes "take"
-verb_text verb.End = codes "end"
-verb_text verb.Quantum = codes "quantum"
-verb_text verb.Start = codes "start"
-verb_text verb.Stat = codes "stat"
-verb_text verb.Dump = codes "dump"
-verb_text verb.Report = codes "report"
-verb_text verb.Left = codes "left"
-verb_text verb.Rules = codes "rules"
-verb_text verb.Units = codes "units"
+verb_text Verb.Config = codes "config"
+verb_text Verb.New = codes "new"
+verb_text Verb.Get = codes "get"
+verb_text Verb.Put = codes "put"
+verb_text Verb.Copy = codes "copy"
+verb_text Verb.Clear = codes "clear"
+verb_text Verb.Read = codes "read"
+verb_text Verb.Write = codes "write"
+verb_text Verb.Same = codes "same"
+verb_text Verb.Shape = codes "shape"
+verb_text Verb.Post = codes "post"
+verb_text Verb.Take = codes "take"
+verb_text Verb.End = codes "end"
+verb_text Verb.Quantum = codes "quantum"
+verb_text Verb.Start = codes "start"
+verb_text Verb.Stat = codes "stat"
+verb_text Verb.Dump = codes "dump"
+verb_text Verb.Report = codes "report"
+verb_text Verb.Left = codes "left"
+verb_text Verb.Rules = codes "rules"
+verb_text Verb.Units = codes "units"
 
 -- the bounds of the numbers that follow it
 abbrev pub verb_bounds : Verb → List ℕ
-verb_bounds verb.Config = u64 ∷ u64 ∷ u64 ∷ u64 ∷ []
-verb_bounds verb.New = u32 ∷ u32 ∷ u32 ∷ []
-verb_bounds verb.Get = u32 ∷ u32 ∷ u32 ∷ []
-verb_bounds verb.Put = u32 ∷ u32 ∷ u32 ∷ []
-verb_bounds verb.Copy = u32 ∷ u32 ∷ []
-verb_bounds verb.Clear = u32 ∷ []
-verb_bounds verb.Read = u32 ∷ u32 ∷ []
-verb_bounds verb.Write = u32 ∷ u32 ∷ u64 ∷ []
-verb_bounds verb.Same = u32 ∷ u32 ∷ []
-verb_bounds verb.Shape = u32 ∷ []
-verb_bounds verb.Post = u32 ∷ u32 ∷ []
-verb_bounds verb.Take = u32 ∷ u32 ∷ []
-verb_bounds verb.Report = u64 ∷ []
-verb_bounds verb.Rules = u64 ∷ u64 ∷ u64 ∷ u64 ∷ u64 ∷ []
-verb_bounds verb.Units = u64 ∷ u64 ∷ []
+verb_bounds Verb.Config = u64 ∷ u64 ∷ u64 ∷ u64 ∷ []
+verb_bounds Verb.New = u32 ∷ u32 ∷ u32 ∷ []
+verb_bounds Verb.Get = u32 ∷ u32 ∷ u32 ∷ []
+verb_bounds Verb.Put = u32 ∷ u32 ∷ u32 ∷ []
+verb_bounds Verb.Copy = u32 ∷ u32 ∷ []
+verb_bounds Verb.Clear = u32 ∷ []
+verb_bounds Verb.Read = u32 ∷ u32 ∷ []
+verb_bounds Verb.Write = u32 ∷ u32 ∷ u64 ∷ []
+verb_bounds Verb.Same = u32 ∷ u32 ∷ []
+verb_bounds Verb.Shape = u32 ∷ []
+verb_bounds Verb.Post = u32 ∷ u32 ∷ []
+verb_bounds Verb.Take = u32 ∷ u32 ∷ []
+verb_bounds Verb.Report = u64 ∷ []
+verb_bounds Verb.Rules = u64 ∷ u64 ∷ u64 ∷ u64 ∷ u64 ∷ []
+verb_bounds Verb.Units = u64 ∷ u64 ∷ []
 verb_bounds other = []
 
 -- the bounds of the numbers after the first row's word that is this one

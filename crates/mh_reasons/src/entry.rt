@@ -1,7 +1,6 @@
 //! What is wrong with a line after the first of a history. Its units come first, then its event, and then its reply.
 ghost use Rattle.std.specs.Prelude.{◌≡◌, None, IfSome, IfNone, IsSome};
-ghost use Rattle.mh_model.specs.HistoryTexts.{entry_of, measured_of, event_of};
-ghost use Rattle.mh_model.specs.Replies.{reply_of};
+ghost use Rattle.mh_model.specs.{HistoryTexts.{entry_of, measured_of, event_of}, Replies.reply_of};
 ghost use Rattle.mh_reasons.specs.HistoryReasons.{IsEntryReason, IsEntryWordsReason, IsEntryWrong, IsEventReason, IsMeasuredReason, IsReplyReason};
 
 use crate::byte_fault::byte_fault;

@@ -1,7 +1,6 @@
 //! What is wrong with the words of an event, which scripts and histories have alike.
 ghost use Rattle.std.specs.Prelude.{◌≡◌, None, true, false, ◌∷◌, codes};
-ghost use Rattle.mh_model.specs.Bytes.{is_text, is_name};
-ghost use Rattle.mh_model.specs.Forms.{command_of, control_of};
+ghost use Rattle.mh_model.specs.{Bytes.{is_text, is_name}, Forms.{command_of, control_of}};
 ghost use Rattle.mh_model.specs.declared.history.Version.{Version};
 ghost use Rattle.mh_reasons.specs.Reasons.{IsWordsReason};
 

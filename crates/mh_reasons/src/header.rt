@@ -1,7 +1,6 @@
 //! What is wrong with the first line of a history. A script or a history of the other version is named as such.
 ghost use Rattle.std.specs.Prelude.{◌≡◌, ◌≢◌, None, ◌∷◌, List, ℕ, IfSome, IfNone, option_map, option_and_then, false};
-ghost use Rattle.mh_model.specs.Bytes.{numbers};
-ghost use Rattle.mh_model.specs.HistoryTexts.{header_by};
+ghost use Rattle.mh_model.specs.{Bytes.numbers, HistoryTexts.header_by};
 ghost use Rattle.mh_reasons.specs.Operands.{fit};
 ghost use Rattle.mh_reasons.specs.HistoryReasons.{IsFirstWrong, IsFirstLineReason, IsGivenReason, headed};
 

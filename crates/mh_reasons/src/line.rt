@@ -1,10 +1,8 @@
 //! What is wrong with a line of a script. The reason is true of that line. A comment comes first, then the bytes, then
 //! the words. Of a configuration the first number outside its limits is named.
 ghost use Rattle.std.specs.Prelude.{◌≡◌, ℕ, Some, None, true, false, ◌∷◌, IfSome, IfNone, codes};
-ghost use Rattle.mh_model.specs.Limits.{is_configuration};
-ghost use Rattle.mh_model.specs.Bytes.{words, is_text, is_name};
-ghost use Rattle.mh_model.specs.Script.{config_words, line_words, Wrong};
-ghost use Rattle.mh_model.specs.declared.history.Version.TheVariants.{Two};
+ghost use Rattle.mh_model.specs.{Limits.is_configuration, Bytes.{words, is_text, is_name}};
+ghost use Rattle.mh_model.specs.{Script.{config_words, line_words, Wrong}, declared.history.Version.TheVariants.Two};
 ghost use Rattle.mh_model.specs.declared.history.Version.{Version};
 ghost use Rattle.mh_reasons.specs.Reasons.{IsWrong, IsLineReason, IsWordsReason, IsHistory, is_in_limits, are_in_limits_before};
 

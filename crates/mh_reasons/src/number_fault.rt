@@ -1,6 +1,5 @@
 //! What is wrong with a word that is to be a number, and at most some other. A word without a fault is such a number.
-ghost use Rattle.std.specs.Prelude.{suc, IfSome, IfNone, ◌≡◌};
-ghost use Rattle.std.specs.List.{list_all};
+ghost use Rattle.std.specs.{Prelude.{suc, IfSome, IfNone, ◌≡◌}, List.list_all};
 ghost use Rattle.mh_model.specs.Bytes.{is_digit};
 ghost use Rattle.mh_reasons.specs.Numbers.{HasNumberFault, IsNumberBelow};
 

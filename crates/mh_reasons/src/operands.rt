@@ -1,8 +1,7 @@
 //! What is wrong with the words after a verb: how many they are, or else the first that isn't a number which may stand
 //! there.
 ghost use Rattle.std.specs.Prelude.{◌≡◌, ◌↔◌, IsTrue, false, true, length, IfSome, IfNone};
-ghost use Rattle.mh_reasons.specs.Verbs.{verb_bounds};
-ghost use Rattle.mh_reasons.specs.Bounds.{bounds_above};
+ghost use Rattle.mh_reasons.specs.{Verbs.verb_bounds, Bounds.bounds_above};
 ghost use Rattle.mh_reasons.specs.Operands.{fit, IsOperandReason, HasOperandFault};
 
 use crate::number_fault::{NumberFault, number_fault};

@@ -101,8 +101,7 @@ const SMALL: u64 = 0xffff_ffff;
 
 impl Verb {
     ghost use Rattle.std.specs.Prelude.{◌≡◌};
-    ghost use Rattle.mh_reasons.specs.Bounds.{bounds_above};
-    ghost use Rattle.mh_reasons.specs.Verbs.{verb_bounds};
+    ghost use Rattle.mh_reasons.specs.{Bounds.bounds_above, Verbs.verb_bounds};
 
     /// The greatest that each of its numbers may be.
     pub fn greatest(self) -> &'static [u64]

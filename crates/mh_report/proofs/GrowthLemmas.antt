@@ -1,13 +1,9 @@
 -- A walk over a trace that grows.
-use Rattle.std.proofs.Common.{◌≡◌, ◌∙◌, ◌++◌, List, length, get_or, ap, arith}
+use Rattle.std.proofs.{Common.{◌≡◌, ◌∙◌, ◌++◌, List, length, get_or, ap, arith}, lemmas.List.length-append}
 use Rattle.std.specs.List.{All}
-use Rattle.std.proofs.lemmas.List.{length-append}
 use Rattle.mh_model.specs.Trace.{Letter}
-use Rattle.mh_report.specs.declared.segment.Segment.{Segment}
-use Rattle.mh_report.specs.declared.walk.Walk.{Walk}
-use Rattle.mh_report.specs.Segments.{letters_of}
-use Rattle.mh_report.specs.Points.{after}
-use Rattle.mh_report.specs.Walks.{IsWalk, KeepsPoints}
+use Rattle.mh_report.specs.{declared.segment.Segment.Segment, declared.walk.Walk.Walk, Segments.letters_of}
+use Rattle.mh_report.specs.{Points.after, Walks.{IsWalk, KeepsPoints}}
 use Rattle.mh_report.proofs.WalkLemmas.{kept_grows}
 
 pub walk_grows : (old new : List Segment) (letters : List Letter) (walk : Walk) → letters_of new ≡ letters_of old ++ letters → KeepsPoints old new letters → IsWalk old walk → IsWalk new walk

@@ -1,13 +1,11 @@
 -- Walks in the order of their windows.
 use Rattle.std.proofs.Common.{◌≡◌, ◌⊎◌, ℕ, ◌+◌, ◌<◌, ◌≤◌, Bool, true, false, if◌then◌else◌, List, ◌∷◌, length, get_or, take, drop, inl, inr, ap, ◌∙◌, arith}
-use Rattle.std.specs.List.{All, insert}
-use Rattle.std.proofs.lemmas.Bool.{cases_lt}
-use Rattle.std.proofs.lemmas.List.{get_or_default}
+use Rattle.std.proofs.{lemmas.Bool.cases_lt, lemmas.List.get_or_default}
 use Rattle.std.proofs.lemmas.List.Edits.{length-insert, get_or-insert_below, get_or-insert_above}
 use Rattle.std.proofs.lemmas.List.Elements.{All-append, All-take, All-drop, All-cons}
 use Rattle.std.proofs.lemmas.List.Sorted.{IsNonDecreasingBy-insert}
-use Rattle.mh_report.specs.declared.walk.Walk.{Walk}
-use Rattle.mh_report.specs.Walks.{AreInOrder, HasWalk}
+use Rattle.std.specs.List.{All, insert}
+use Rattle.mh_report.specs.{declared.walk.Walk.Walk, Walks.{AreInOrder, HasWalk}}
 
 -- so many walks are of a shorter window, and the others aren't
 pub record IsPosition (walks : List Walk) (window number : ℕ) : Type 0 where

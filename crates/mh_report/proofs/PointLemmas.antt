@@ -1,10 +1,8 @@
 -- Points in the segments of a trace, as it is gone over and as it grows.
 use Rattle.std.proofs.Common.{◌≡◌, ℕ, zero, suc, ◌+◌, ◌-◌, ◌<◌, ◌≤◌, List, [], ◌∷◌, ◌++◌, length, replicate, set, get_or, ap, refl, sym, ◌∙◌, arith, append_assoc}
 use Rattle.std.proofs.lemmas.List.{append-nil, replicate-append-replicate}
-use Rattle.mh_report.specs.declared.segment.Segment.{Segment}
-use Rattle.mh_report.specs.Segments.{letter_of, letters_of, IsInside, letters_after}
-use Rattle.mh_report.proofs.SegmentLemmas.{letters_of_push, letters_of_longer}
-use Rattle.mh_report.proofs.WalkLemmas.{alike-parts, length-alike}
+use Rattle.mh_report.specs.{declared.segment.Segment.Segment, Segments.{letter_of, letters_of, IsInside, letters_after}}
+use Rattle.mh_report.proofs.{SegmentLemmas.{letters_of_push, letters_of_longer}, WalkLemmas.{alike-parts, length-alike}}
 
 pub inside_list : (segments : List Segment) (number passed : ℕ) → IsInside segments number passed → number < length segments
 inside_list [] number passed is = absurd is

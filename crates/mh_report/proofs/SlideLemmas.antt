@@ -1,8 +1,7 @@
 -- What passes as a stretch slides over letters that are alike.
 use Rattle.std.proofs.Common.{◌≡◌, ℕ, zero, suc, ◌-◌, ◌<◌, ◌≤◌, List, [], ◌∷◌, ◌++◌, drop, length, replicate, ap, refl, arith}
 use Rattle.mh_model.specs.Trace.{Letter}
-use Rattle.mh_report.specs.declared.segment.Segment.{Segment}
-use Rattle.mh_report.specs.Segments.{letters_of}
+use Rattle.mh_report.specs.{declared.segment.Segment.Segment, Segments.letters_of}
 use Rattle.mh_report.specs.Slides.{Passing, alike, passings, passings_of}
 use Rattle.mh_report.proofs.WalkLemmas.{alike-parts}
 

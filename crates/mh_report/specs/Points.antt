@@ -1,8 +1,7 @@
 -- Points in the segments of a trace.
 use Rattle.std.specs.Prelude.{List}
 use Rattle.mh_model.specs.Trace.{Letter}
-use Rattle.mh_report.specs.declared.segment.Segment.{Segment}
-use Rattle.mh_report.specs.declared.point.Point.{Point}
+use Rattle.mh_report.specs.{declared.segment.Segment.Segment, declared.point.Point.Point}
 use Rattle.mh_report.specs.Segments.{IsInside, letters_after}
 
 -- a point in these segments

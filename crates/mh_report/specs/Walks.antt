@@ -1,14 +1,8 @@
 -- A stretch that slid on over a trace.
-use Rattle.std.specs.Prelude.{◌≡◌, ℕ, ◌+◌, ◌≤◌, ◌++◌, List, length}
-use Rattle.std.specs.List.{Any}
-use Rattle.std.specs.List.Sorted.{IsNonDecreasingBy}
+use Rattle.std.specs.{Prelude.{◌≡◌, ℕ, ◌+◌, ◌≤◌, ◌++◌, List, length}, List.Any, List.Sorted.IsNonDecreasingBy}
 use Rattle.mh_model.specs.Trace.{Letter}
-use Rattle.mh_report.specs.declared.segment.Segment.{Segment}
-use Rattle.mh_report.specs.declared.point.Point.{Point}
-use Rattle.mh_report.specs.declared.walk.Walk.{Walk}
-use Rattle.mh_report.specs.Segments.{letters_of}
-use Rattle.mh_report.specs.Points.{IsPoint, after}
-use Rattle.mh_report.specs.Walk.{HasSlid}
+use Rattle.mh_report.specs.{declared.segment.Segment.Segment, declared.point.Point.Point, declared.walk.Walk.Walk}
+use Rattle.mh_report.specs.{Segments.letters_of, Points.{IsPoint, after}, Walk.HasSlid}
 
 -- a walk over these segments
 pub record IsWalk (segments : List Segment) (walk : Walk) : Type 0 where

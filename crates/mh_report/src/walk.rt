@@ -1,8 +1,7 @@
 //! A stretch that slides over a trace, by letters alike at once, and finds the least that it ever has of the mutator.
 ghost use Rattle.std.specs.Prelude.{◌≡◌, ◌+◌, ◌^◌, ◌<◌, ◌≤◌, ◌++◌, Some, List, length, replicate, take};
 ghost use Rattle.mh_model.specs.Trace.{Letter, least_mutator, mutator_count};
-ghost use Rattle.mh_report.specs.Segments.{letter_of, letters_of};
-ghost use Rattle.mh_report.specs.Walk.{HasSlid};
+ghost use Rattle.mh_report.specs.{Segments.{letter_of, letters_of}, Walk.HasSlid};
 
 use crate::point::Point;
 use crate::segment::Segment;
@@ -20,8 +19,7 @@ pub struct Walk {
 }
 
 impl Walk {
-    ghost use Rattle.mh_report.specs.Points.{IsPoint, after};
-    ghost use Rattle.mh_report.specs.Walks.{IsWalk};
+    ghost use Rattle.mh_report.specs.{Points.{IsPoint, after}, Walks.IsWalk};
 
     /// The first stretch of this length.
     pub fn first(segments: &[Segment], window: u64) -> Walk

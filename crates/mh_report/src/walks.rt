@@ -6,8 +6,7 @@
 //! segments.
 ghost use Rattle.std.specs.Prelude.{◌≡◌, ◌<◌, ◌≤◌, [], ℕ, List, length, nat_lt, slice_index_or, IfSome, IsSome};
 ghost use Rattle.std.specs.List.{All, Contains};
-ghost use Rattle.mh_report.specs.declared.segment.Segment.{Segment};
-ghost use Rattle.mh_report.specs.declared.walk.Walk.{Walk};
+ghost use Rattle.mh_report.specs.{declared.segment.Segment.Segment, declared.walk.Walk.Walk};
 ghost use Rattle.mh_report.specs.Walks.{IsWalk, AreInOrder, HasWalk};
 
 use crate::walk::Walk;

@@ -1,9 +1,7 @@
 -- Slots that lead straight to where they led, so many of them so far.
 use Rattle.std.proofs.Common.{◌≡◌, ℕ, zero, suc, ◌+◌, ◌<◌, IsSome, Option, Some, None, List, [], ◌∷◌, ◌++◌, get_or, set, map, take, drop, length, sym, ap, ◌∙◌, refl, subst}
-use Rattle.std.proofs.lemmas.List.{get_or_default}
-use Rattle.std.proofs.lemmas.List.Edits.{map_over_more}
-use Rattle.mh_model.specs.Pages.{Table, Leads, block_at}
-use Rattle.mh_model.specs.Table.{Block, target_of}
+use Rattle.std.proofs.{lemmas.List.get_or_default, lemmas.List.Edits.map_over_more}
+use Rattle.mh_model.specs.{Pages.{Table, Leads, block_at}, Table.{Block, target_of}}
 use Rattle.mh_roots.specs.Roots.{SlotsLead}
 
 -- the slots, of which those before one have been forwarded

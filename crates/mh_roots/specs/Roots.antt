@@ -1,8 +1,6 @@
 -- What holds of the root slots, and what empties some of them.
 use Rattle.std.specs.Prelude.{ℕ, Option, None, List, ◌++◌, get_or, take, drop, replicate}
-use Rattle.mh_model.specs.World.{own_slot}
-use Rattle.mh_model.specs.Pages.{Table, Leads}
-use Rattle.mh_model.specs.Table.{Block}
+use Rattle.mh_model.specs.{World.own_slot, Pages.{Table, Leads}, Table.Block}
 
 -- each slot is empty, or a block is at the place that it holds
 abbrev pub SlotsLead : Table Block → List (Option ℕ) → Type 0

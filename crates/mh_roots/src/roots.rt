@@ -1,9 +1,7 @@
 //! The 144 root slots: read, written, a session's emptied, and all of them led straight to where they led.
 //! `clear_session` is for who uses the crate by itself, since `end` has a barrier at each slot.
 ghost use Rattle.std.specs.Prelude.{◌≡◌, ◌<◌, ◌++◌, None, length, get_or, set, replicate, take, drop};
-ghost use Rattle.mh_model.specs.Collector.{forwarded_slots};
-ghost use Rattle.mh_model.specs.World.{own_slot};
-ghost use Rattle.mh_model.specs.Limits.{root_slots};
+ghost use Rattle.mh_model.specs.{Collector.forwarded_slots, World.own_slot, Limits.root_slots};
 ghost use Rattle.mh_roots.specs.Roots.{SlotsLead, without_session};
 
 use mh_blocks::blocks::Blocks;

@@ -1,9 +1,7 @@
 -- The counts of a run stay within its events.
 use Rattle.std.specs.Prelude.{ℕ, suc, ◌+◌, ◌*◌, ◌≤◌, List, length}
-use Rattle.mh_model.specs.declared.command.Event.{Event}
-use Rattle.mh_model.specs.declared.config.Config.{Config}
-use Rattle.mh_model.specs.declared.config.Rules.TheVariants.{Second}
-use Rattle.mh_model.specs.World.{most_fields_under}
+use Rattle.mh_model.specs.{declared.command.Event.Event, declared.config.Config.Config}
+use Rattle.mh_model.specs.{declared.config.Rules.TheVariants.Second, World.most_fields_under}
 use Rattle.mh_model.specs.Classes.{run_count, middle_count}
 use Rattle.mh_model.specs.Machine.{Machine, first_machine, half_step, machine_after}
 

@@ -1,10 +1,7 @@
 -- Forwarders: a cycle of a run leaves only those that its own defragmentation made.
 use Rattle.std.specs.Prelude.{◌≡◌, true, List, [], ◌∷◌, ◌++◌}
-use Rattle.mh_model.specs.declared.config.Config.{Config}
-use Rattle.mh_model.specs.declared.command.Event.{Event}
-use Rattle.mh_model.specs.Collector.{Collector, is_idle}
-use Rattle.mh_model.specs.Machine.{first_machine, half_step, machine_after}
-use Rattle.mh_model.specs.Snapshot.{has_quantum}
+use Rattle.mh_model.specs.{declared.config.Config.Config, declared.command.Event.Event, Collector.{Collector, is_idle}}
+use Rattle.mh_model.specs.{Machine.{first_machine, half_step, machine_after}, Snapshot.has_quantum}
 use Rattle.mh_run_laws.specs.BesideTheWorld.{IsInCycle}
 use Rattle.mh_laws.specs.Forwarders.{BeginsToDefragment, IsMadeSince}
 

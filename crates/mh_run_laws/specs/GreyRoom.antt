@@ -1,11 +1,8 @@
 -- The grey list has room: no place stands twice in it, and each holds a marked block.
-use Rattle.std.specs.Prelude.{◌≢◌, ℕ, List}
-use Rattle.std.specs.List.{AllByRecursion}
-use Rattle.mh_model.specs.declared.command.Event.{Event}
-use Rattle.mh_model.specs.declared.config.Config.{Config}
-use Rattle.mh_model.specs.Collector.{marking_of}
+use Rattle.std.specs.{Prelude.{◌≢◌, ℕ, List}, List.AllByRecursion}
+use Rattle.mh_model.specs.{declared.command.Event.Event, declared.config.Config.Config, Collector.marking_of}
 use Rattle.mh_model.specs.Mutator.{HeapState}
-use Rattle.mh_laws.specs.OfTableLaws.Marking.{IsSettled}
+use Rattle.mh_table_laws.specs.Marking.{IsSettled}
 use Rattle.mh_laws.specs.Deeds.{Deed, heap_after, heap_at, with_cycle}
 
 -- a place that is settled after some steps and commands stays out of the grey list after more, for the rest of the cycle

@@ -7,3 +7,7 @@ pub mod Following
 pub mod BesideTheWorld
 pub mod Forwarders
 pub mod Replays
+pub mod Windows
+pub mod WindowLaws
+pub mod Forgetting
+pub mod ForgettingLaws

@@ -1,7 +1,6 @@
 -- Machines that go through their events one by one.
 use Rattle.std.specs.Prelude.{◌≡◌, List, [], ◌∷◌, ◌++◌}
-use Rattle.mh_model.specs.declared.command.Event.{Event}
-use Rattle.mh_model.specs.declared.config.Config.{Config}
+use Rattle.mh_model.specs.{declared.command.Event.Event, declared.config.Config.Config}
 use Rattle.mh_model.specs.Machine.{Machine, first_machine, event_step, machine_after, machine_replies}
 use Rattle.mh_model.specs.Snapshot.{Moment, first_moment, moment_after}
 

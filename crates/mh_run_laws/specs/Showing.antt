@@ -1,9 +1,5 @@
 -- The laws of what a heap shows while it is collected: it changes only if the sweep begins, and then what is reachable stays.
-use Rattle.mh_model.specs.World.{World, IsClosed}
-use Rattle.mh_model.specs.Paths.{Agrees}
-use Rattle.mh_model.specs.Collector.{quantum}
-use Rattle.mh_model.specs.Mutator.{HeapState}
-use Rattle.mh_model.specs.View.{heap_view}
+use Rattle.mh_model.specs.{World.{World, IsClosed}, Paths.Agrees, Collector.quantum, Mutator.HeapState, View.heap_view}
 use Rattle.mh_model.specs.Invariant.{HeapKeeps, IsKeeping}
 
 -- Each quantum, in any phase, keeps a view that agrees with a world

@@ -1,11 +1,8 @@
 -- Quanta within their bound, and the mutator's share of each stretch of a trace.
 use Rattle.std.specs.Prelude.{◌≡◌, ℕ, ◌+◌, ◌<◌, ◌≤◌, ◌-◌, false, Some, List}
-use Rattle.mh_model.specs.declared.command.Event.{Event}
-use Rattle.mh_model.specs.declared.config.Config.{Config}
-use Rattle.mh_model.specs.Collector.{Collector, is_idle, quantum}
-use Rattle.mh_model.specs.Trace.{TraceState, least_mutator, floor}
-use Rattle.mh_model.specs.Machine.{first_machine, half_step, machine_after}
-use Rattle.mh_model.specs.Limits.{least_quantum}
+use Rattle.mh_model.specs.{declared.command.Event.Event, declared.config.Config.Config}
+use Rattle.mh_model.specs.{Collector.{Collector, is_idle, quantum}, Trace.{TraceState, least_mutator, floor}}
+use Rattle.mh_model.specs.{Machine.{first_machine, half_step, machine_after}, Limits.least_quantum}
 
 -- a quantum of this collector that leaves its cycle running leaves at most 208 units
 abbrev pub LeavesLittle : Config → Collector → Type 0

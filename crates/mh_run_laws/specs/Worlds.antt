@@ -1,8 +1,6 @@
 -- A heap that is seen as a world, beside the ever-growing world.
 use Rattle.std.specs.Prelude.{◌≡◌, ℕ, false, List}
-use Rattle.mh_model.specs.declared.command.Command.{Command}
-use Rattle.mh_model.specs.declared.command.Event.{Event}
-use Rattle.mh_model.specs.World.{World, world_step}
+use Rattle.mh_model.specs.{declared.command.Command.Command, declared.command.Event.Event, World.{World, world_step}}
 use Rattle.mh_model.specs.Machine.{machine_after, machine_replies}
 use Rattle.mh_model.specs.Snapshot.{Moment, moment_after, is_heap_full, world_beside}
 

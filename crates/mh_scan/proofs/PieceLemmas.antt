@@ -1,21 +1,15 @@
 -- Pieces of a batch, and how often each was scanned.
 use Rattle.std.proofs.Common.{arith, ◌≡◌, ℕ, zero, suc, ◌+◌, ◌*◌, ◌<◌, ◌≤◌, ◌==◌, if◌then◌else◌, Option, List, [], ◌∷◌, ◌++◌, take, drop, remove, length, get_or, map, flat_map, count_by, All, refl, sym, ap, ◌∙◌}
-use Rattle.std.proofs.Math.Seq.{take-add}
-use Rattle.std.proofs.lemmas.List.Elements.{All-take, All-drop, All-append, All-from_get_or}
-use Rattle.std.proofs.lemmas.List.Sums.{sum_by-append, sum_by-cons}
-use Rattle.std.proofs.lemmas.Bool.Decides.{nat_tests}
+use Rattle.std.proofs.{Math.Seq.take-add, lemmas.List.Elements.{All-take, All-drop, All-append, All-from_get_or}}
+use Rattle.std.proofs.{lemmas.List.Sums.{sum_by-append, sum_by-cons}, lemmas.Bool.Decides.nat_tests}
 use mathlib.Core.List.{map-append}
 use Rattle.arrayvec.specs.ArrayVec.{ArrayVec}
-use Rattle.mh_model.specs.Pages.{Table}
-use Rattle.mh_model.specs.Table.{Block, references_at, target_of}
-use Rattle.mh_model.specs.History.{times_drawn}
+use Rattle.mh_model.specs.{Pages.Table, Table.{Block, references_at, target_of}, History.times_drawn}
 use Rattle.mh_claims.specs.Seats.{DrawSeatView}
 use Rattle.mh_scan.specs.Scanning.{IsScannable, AreScannable, is_settled, lists}
 use Rattle.mh_scan.specs.Asking.{lists_asked, settled_asked, AreAnswers}
-use Rattle.mh_scan.specs.Crew.{piece_at, pieces_of, times_found, drawn_by}
-use Rattle.mh_scan.specs.declared.answers.Answers.{Answers}
-use Rattle.mh_scan.specs.declared.answers.Asks.{Asks}
-use Rattle.mh_scan.specs.declared.answers.Asks.TheVariants.{Lists, Settled}
+use Rattle.mh_scan.specs.{Crew.{piece_at, pieces_of, times_found, drawn_by}, declared.answers.Answers.Answers}
+use Rattle.mh_scan.specs.{declared.answers.Asks.Asks, declared.answers.Asks.TheVariants.{Lists, Settled}}
 use Rattle.mh_scan.specs.declared.crew.Found.{Found}
 
 -- Pieces ----------------------------------------------------------------------------------------

@@ -1,10 +1,7 @@
 -- What a batch is asked, and what its answers are.
 use Rattle.std.specs.Prelude.{◌≡◌, ℕ, Bool, Option, List, []}
-use Rattle.mh_model.specs.Pages.{Table}
-use Rattle.mh_model.specs.Table.{Block, found_in}
-use Rattle.mh_scan.specs.Scanning.{lists, settled_in}
-use Rattle.mh_scan.specs.declared.answers.Answers.{Answers}
-use Rattle.mh_scan.specs.declared.answers.Asks.{Asks}
+use Rattle.mh_model.specs.{Pages.Table, Table.{Block, found_in}}
+use Rattle.mh_scan.specs.{Scanning.{lists, settled_in}, declared.answers.Answers.Answers, declared.answers.Asks.Asks}
 use Rattle.mh_scan.specs.declared.answers.Asks.TheVariants.{Lists, Settled}
 
 -- where the references of the blocks lead, if a batch asks for that; otherwise nothing

@@ -1,11 +1,8 @@
 -- A batch in pieces of 16 places, and the workers that draw them and ask their blocks.
 use Rattle.std.specs.Prelude.{◌≡◌, ℕ, ◌+◌, ◌*◌, ◌/◌, ◌≤◌, ◌==◌, true, false, if◌then◌else◌, List, [], ◌∷◌, ◌++◌, All, map, take, drop}
-use Rattle.mh_model.specs.Pages.{Table}
-use Rattle.mh_model.specs.Table.{Block}
+use Rattle.mh_model.specs.{Pages.Table, Table.Block}
 use Rattle.mh_claims.specs.Seats.{ClaimsView, DrawSeatView, DrawsFrom, IsBeforeItsDraws, seat_ended}
-use Rattle.mh_scan.specs.Asking.{AreAnswers}
-use Rattle.mh_scan.specs.declared.answers.Asks.{Asks}
-use Rattle.mh_scan.specs.declared.crew.Found.{Found}
+use Rattle.mh_scan.specs.{Asking.AreAnswers, declared.answers.Asks.Asks, declared.crew.Found.Found}
 use Rattle.mh_scan.specs.declared.crew.Worker.{Worker}
 
 -- how many pieces a batch of a length has

@@ -1,8 +1,7 @@
 //! What is asked of the blocks of a batch, and what is found of them. All scanners ask block by block with these
 //! functions. `scan_block` finds where the references of one block lead, in order.
 ghost use Rattle.std.specs.Prelude.{◌≡◌, ◌++◌, [], ◌∷◌, IfOk, map};
-ghost use Rattle.mh_model.specs.Pages.{Leads};
-ghost use Rattle.mh_model.specs.Table.{references_at, target_of};
+ghost use Rattle.mh_model.specs.{Pages.Leads, Table.{references_at, target_of}};
 ghost use Rattle.mh_scan.specs.Scanning.{IsScannable, AreScannable, is_reached, is_settled, lists};
 ghost use Rattle.mh_scan.specs.Asking.{lists_asked, settled_asked, AreAnswers};
 

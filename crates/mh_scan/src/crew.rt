@@ -6,8 +6,7 @@
 ghost use Rattle.std.specs.Prelude.{◌≡◌, ◌<◌, ◌≤◌, ℕ, true, All, IfOk, length, remove, slice_index_or, vec_len};
 ghost use Rattle.mh_model.specs.History.{times_drawn};
 ghost use Rattle.mh_claims.specs.Seats.{DrawsFrom, IsBeforeItsDraws, seat_ended};
-ghost use Rattle.mh_scan.specs.Scanning.{AreScannable};
-ghost use Rattle.mh_scan.specs.Asking.{AreAnswers};
+ghost use Rattle.mh_scan.specs.{Scanning.AreScannable, Asking.AreAnswers};
 ghost use Rattle.mh_scan.specs.Crew.{piece_count, piece_at, IsFound, times_found, drawn_by, IsHired, HasWorked};
 
 use crate::answers::{Answers, Asks, ask_each};

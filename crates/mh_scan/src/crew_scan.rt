@@ -12,8 +12,7 @@
 //! call of the crew for its own type (`CrewGate`), with the head of `scan_by_crew`. A scan, a run, a service and a race
 //! ask for a `CrewGate`, since it can be called from the threads of a crew. For one thread `Gate` alone would do.
 ghost use Rattle.std.specs.Prelude.{◌<◌, ◌≤◌, IfOk};
-ghost use Rattle.mh_scan.specs.Scanning.{AreScannable, settled_in, lists};
-ghost use Rattle.mh_scan.specs.Asking.{AreAnswers};
+ghost use Rattle.mh_scan.specs.{Scanning.{AreScannable, settled_in, lists}, Asking.AreAnswers};
 
 use crate::answers::{Answers, Asks};
 use crate::crew;

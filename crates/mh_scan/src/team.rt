@@ -1,6 +1,5 @@
 //! Work at each place of a slice, in threads that are all started by the caller.
-ghost use Rattle.std.specs.Prelude.{◌≡◌, ◌^◌, ◌<◌, length};
-ghost use Rattle.std.specs.Thread.{IsSync, IsSend};
+ghost use Rattle.std.specs.{Prelude.{◌≡◌, ◌^◌, ◌<◌, length}, Thread.{IsSync, IsSend}};
 ghost use Rattle.std.specs.Fork.{AcceptsAt, ChangesAt, AcceptsEach, ChangesEach};
 ghost use Rattle.mh_scan.specs.Team.{AllFrom, ChangesFrom};
 

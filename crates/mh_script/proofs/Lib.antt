@@ -1,10 +1,6 @@
-pub mod AddedLines
-pub mod BufferLemmas
-pub mod FaultLemmas
-pub mod MachineLemmas
-pub mod PieceLemmas
+pub mod HistoryLemmas
+pub mod LineLemmas
 pub mod PromiseLemmas
 pub mod RunLemmas
-pub mod SourceLemmas
-pub mod OfMachine
-pub mod OfReasons
+pub mod TakenLemmas
+pub mod TaskLemmas

@@ -1,108 +1,69 @@
 -- What a run of a script writes shows the replies of an outcome that keeps the promise.
-use Rattle.std.proofs.Common.{◌≡◌, ◌∙◌, ◌<◌, ◌≤◌, Bool, true, false, if◌then◌else◌, nat_lt, List, length, take, Option, refl, sym, ap, subst, arith}
-use Rattle.std.proofs.lemmas.Bool.Decides.{nat_tests}
-use Rattle.std.proofs.lemmas.List.{take_all}
-use Rattle.std.specs.Prelude.{Result, Ok, Err, IfOk, OnErr, IsErrOf}
-use Rattle.std.specs.Io.KnownBytes.{Appends}
-use Rattle.mh_model.specs.declared.command.Event.{Event}
-use Rattle.mh_model.specs.declared.config.Config.{Config}
-use Rattle.mh_model.specs.declared.config.Rules.{Rules}
-use Rattle.mh_model.specs.declared.reply.Reply.{Reply}
-use Rattle.mh_model.specs.Bytes.{Text}
-use Rattle.mh_model.specs.Configs.{with_rules}
-use Rattle.mh_model.specs.Limits.{most_entries}
-use Rattle.mh_model.specs.Machine.{first_machine, machine_replies}
-use Rattle.mh_model.specs.Output as model
-use Rattle.mh_model.specs.Output.{ending, ending_of}
-use Rattle.mh_model.specs.RunHistories.{under_rules}
-use Rattle.mh_model.specs.Script.{BadLine, Meaning, Means, Reading, reading, reading_map}
+use Rattle.std.proofs.Common.{◌≡◌, ◌∙◌, ℕ, ◌<◌, ◌≤◌, Bool, true, false, if◌then◌else◌, nat_lt, List, length, take, refl, sym, ap, subst, arith}
+use Rattle.std.proofs.{lemmas.Bool.Decides.nat_tests, lemmas.List.take_all}
+use Rattle.std.specs.Prelude.{Result, Ok, Err}
+use Rattle.mh_model.specs.{declared.command.Event.Event, declared.config.Config.Config, declared.config.Rules.Rules}
+use Rattle.mh_model.specs.{declared.reply.Reply.Reply, Bytes.Text, Configs.with_rules, Limits.most_entries}
+use Rattle.mh_model.specs.{Machine.{first_machine, machine_replies}, Output.{Ending, ending, ending_of}}
+use Rattle.mh_model.specs.{RunHistories.under_rules, Script.{BadLine, Meaning, Means, Reading, reading, reading_map}}
 use Rattle.mh_promise.specs.Promise.{RepliesArePromised}
-use Rattle.mh_script.specs.declared.end.End.{End}
-use Rattle.mh_script.specs.declared.end.End.TheVariants.{Done, Refused}
-use Rattle.mh_script.specs.declared.fault.ScriptFault.{ScriptFault}
-use Rattle.mh_script.specs.declared.fault.ScriptFault.TheVariants.{HistoryFull}
-use Rattle.mh_script.specs.Promised.{IsOfScript, IsOfText, IsPromisedText, KeepsPromise, WritesPrefix}
-use Rattle.mh_script.specs.Run.{EndsAs, Outputs, WritesBeginning, transcript, transcript_of}
-use Rattle.mh_script.specs.Texts.{Writes}
+use Rattle.mh_script.specs.{declared.end.End.End, declared.end.End.TheVariants.{Done, Refused}}
+use Rattle.mh_script.specs.{declared.fault.ScriptFault.ScriptFault, declared.fault.ScriptFault.TheVariants.HistoryFull}
+use Rattle.mh_script.specs.Promised.{IsPromisedOutput, IsPromisedText, KeepsPromise}
+use Rattle.mh_script.specs.Run.{IsTranscript, MayEndSo, transcript, transcript_of}
+use Rattle.mh_model.specs.Output as model
 
--- a script of which a run ends so: it has no more events than a history, or more
-means_few : (text : Text) → ending text ≡ model.Done → (script : Meaning) × (reading text ≡ Means script) × (length script.events ≤ most_entries)
+-- a text of which a run ends otherwise than refused is a script
+pub means_some : (text : Text) (ended : Ending) → ((line : ℕ) → ended ≡ model.Refused line → ⊥) → ending text ≡ ended → (script : Meaning) × (reading text ≡ Means script) × (ending_of (Means script) ≡ ended)
 unfolding ending
-means_few text is = go (reading text) refl is
+means_some text ended other is = go (reading text) refl is
   where
-    few : (script : Meaning) (b : Bool) → nat_lt most_entries (length script.events) ≡ b → (if b then model.HistoryFull else model.Done) ≡ model.Done → length script.events ≤ most_entries
-    few script true test ends = absurd cc
-    few script false test ends = grind (arith, nat_tests)
+    go : (r : Reading Meaning) → reading text ≡ r → ending_of r ≡ ended → (script : Meaning) × (reading text ≡ Means script) × (ending_of (Means script) ≡ ended)
+    go (BadLine line) reads ends = absurd (other line (sym ends))
+    go (Means script) reads ends = (script, reads, ends)
 
-    go : (r : Reading Meaning) → reading text ≡ r → ending_of r ≡ model.Done → (script : Meaning) × (reading text ≡ Means script) × (length script.events ≤ most_entries)
-    go (BadLine line) reads ends = absurd cc
-    go (Means script) reads ends = (script, reads, few script (nat_lt most_entries (length script.events)) refl ends)
+-- it has no more events than a history, or more
+few : (script : Meaning) → ending_of (Means script) ≡ model.Done → length script.events ≤ most_entries
+few script = go (nat_lt most_entries (length script.events)) refl where
+  go : (b : Bool) → nat_lt most_entries (length script.events) ≡ b → (if b then model.HistoryFull else model.Done) ≡ model.Done → length script.events ≤ most_entries
+  go true test ends = absurd cc
+  go false test ends = grind (arith, nat_tests)
 
-means_many : (text : Text) → ending text ≡ model.HistoryFull → (script : Meaning) × (reading text ≡ Means script) × (most_entries < length script.events)
-unfolding ending
-means_many text is = go (reading text) refl is
-  where
-    many : (script : Meaning) (b : Bool) → nat_lt most_entries (length script.events) ≡ b → (if b then model.HistoryFull else model.Done) ≡ model.HistoryFull → most_entries < length script.events
-    many script true test ends = grind (arith, nat_tests)
-    many script false test ends = absurd cc
-
-    go : (r : Reading Meaning) → reading text ≡ r → ending_of r ≡ model.HistoryFull → (script : Meaning) × (reading text ≡ Means script) × (most_entries < length script.events)
-    go (BadLine line) reads ends = absurd cc
-    go (Means script) reads ends = (script, reads, many script (nat_lt most_entries (length script.events)) refl ends)
+many : (script : Meaning) → ending_of (Means script) ≡ model.HistoryFull → most_entries < length script.events
+many script = go (nat_lt most_entries (length script.events)) refl where
+  go : (b : Bool) → nat_lt most_entries (length script.events) ≡ b → (if b then model.HistoryFull else model.Done) ≡ model.HistoryFull → most_entries < length script.events
+  go true test ends = grind (arith, nat_tests)
+  go false test ends = absurd cc
 
 -- what is written of a script's text and its events, which shows their replies
-module _ (law : RepliesArePromised) (run : Text → Config → List Event → Text) (Shows : Config → List Event → List Reply → Text → Type 0)
-    (shown : (script : Text) (config : Config) (events : List Event) → Shows config events (machine_replies (first_machine config) events) (run script config events)) (rules : Rules) (known old new : Option Text) where
-  promised : (script : Text) (config : Config) (events : List Event) → IsPromisedText Shows config events (run script config events)
-  promised script config events =
-      let replies = machine_replies (first_machine config) events in
-      record { replies = replies; promised = law config events replies refl; shows = shown script config events }
-
+module _ (law : RepliesArePromised) (text_of : Text → Config → List Event → Text) (Shows : Config → List Event → List Reply → Text → Type 0)
+    (shown : (script : Text) (config : Config) (events : List Event) → Shows config events (machine_replies (first_machine config) events) (text_of script config events)) (rules : Rules) where
   -- the text of a script under these rules
-  written_of : (text : Text) (r : Reading Meaning) (script : Meaning) → reading_map (under_rules rules) r ≡ Means script → run text script.config (take most_entries script.events) ≡ transcript_of (run text) rules r
-  written_of text (BadLine line) script is = absurd cc
-  written_of text (Means own) script is = let same : script ≡ under_rules rules own = cc in ap (λ (m : Meaning). run text m.config (take most_entries m.events)) same
+  text_is : (text : Text) (r : Reading Meaning) (script : Meaning) → reading_map (under_rules rules) r ≡ Means script → transcript_of (text_of text) rules r ≡ text_of text script.config (take most_entries script.events)
+  text_is text (BadLine line) script is = absurd cc
+  text_is text (Means own) script is = let same : under_rules rules own ≡ script = cc in ap (λ (m : Meaning). text_of text m.config (take most_entries m.events)) same
 
-  all_promised : Outputs (transcript run rules) known old new model.Done → IsOfScript rules known (λ config events. Writes (IsPromisedText Shows config events) old new)
-  all_promised h =
-      let (script, is, few) = means_few h.script h.ends in
+  promised : (text : Text) (config : Config) (events : List Event) (out : Text) → out ≡ text_of text config events → IsPromisedText Shows config events out
+  promised text config events out is =
+      let replies = machine_replies (first_machine config) events in
+      record { replies = replies; promised = law config events replies refl; shows = subst (Shows config events replies) (sym is) (shown text config events) }
+
+  keeps_promise : (text : Text) (ended : Result End ScriptFault) (out : Text) → out ≡ transcript text_of rules text → MayEndSo text ended → KeepsPromise Shows rules text ended out
+  keeps_promise text (Ok Done) out is ends =
+      let (script, reads, done) = means_some text model.Done (λ line other. cc) ends in
+      let means = ap (reading_map (under_rules rules)) reads in
       let config = with_rules rules script.config in
-      let written : transcript run rules h.script ≡ run h.script config script.events = ap (transcript_of (run h.script) rules) is ∙ ap (run h.script config) (take_all most_entries script.events few) in
-      record {
-        text = h.script;
-        is_text = h.is_script;
-        script = under_rules rules script;
-        means = ap (reading_map (under_rules rules)) is;
-        holds = (run h.script config script.events, promised h.script config script.events, subst (Appends old new) written h.wrote);
-      }
+      (under_rules rules script, means, promised text config script.events out (is ∙ (text_is text (reading text) (under_rules rules script) means ∙ ap (text_of text config) (take_all most_entries script.events (few script done)))))
+  keeps_promise text (Ok (Refused refusal)) out is ends = tt
+  keeps_promise text (Err HistoryFull) out is ends =
+      let (script, reads, full) = means_some text model.HistoryFull (λ line other. cc) ends in
+      let means = ap (reading_map (under_rules rules)) reads in
+      (under_rules rules script, means, (many script full, promised text (with_rules rules script.config) (take most_entries script.events) out (is ∙ text_is text (reading text) (under_rules rules script) means)))
+  keeps_promise text (Err fault) out is ends = λ script means. promised text script.config (take most_entries script.events) out (is ∙ text_is text (reading text) script means)
 
-  first_promised : Outputs (transcript run rules) known old new model.HistoryFull
-      → IsOfScript rules known (λ config events. (most_entries < length events) × Writes (IsPromisedText Shows config (take most_entries events)) old new)
-  first_promised h =
-      let (script, is, many) = means_many h.script h.ends in
-      let config = with_rules rules script.config in
-      let first = take most_entries script.events in
-      record {
-        text = h.script;
-        is_text = h.is_script;
-        script = under_rules rules script;
-        means = ap (reading_map (under_rules rules)) is;
-        holds = (many, (run h.script config first, promised h.script config first, subst (Appends old new) (ap (transcript_of (run h.script) rules) is) h.wrote));
-      }
-
-  some_promised : WritesBeginning (transcript run rules) known old new → IsOfText rules known (λ config events. WritesPrefix (IsPromisedText Shows config (take most_entries events)) old new)
-  some_promised h = record {
-    text = h.0;
-    is_text = h.3;
-    holds = λ script means.
-        let first = take most_entries script.events in
-        (run h.0 script.config first, promised h.0 script.config first, (h.1, h.2, h.4 ∙ sym (written_of h.0 (reading h.0) script means), h.5));
-  }
-
-  -- so a run that ends so keeps the promise
-  pub keeps_promise : (ended : Result End ScriptFault) → IfOk ended (EndsAs (transcript run rules) known old new) → OnErr ended (WritesBeginning (transcript run rules) known old new)
-      → (IsErrOf ended HistoryFull → Outputs (transcript run rules) known old new model.HistoryFull) → KeepsPromise Shows rules known old new ended
-  keeps_promise (Ok Done) ends begun full = all_promised ends
-  keeps_promise (Ok (Refused refusal)) ends begun full = tt
-  keeps_promise (Err HistoryFull) ends begun full = first_promised (full refl)
-  keeps_promise (Err fault) ends begun full = some_promised begun
+  -- so what is written keeps the promise, by this or another function that writes the same
+  pub promised-output : (Leaves : Config → List Event → Type 0) (written : Text → Text) → ((text : Text) → transcript text_of rules text ≡ written text) → (text : Text) (ended : Result End ScriptFault) (out : Text)
+      → IsTranscript text_of rules Leaves text ended out → IsPromisedOutput Shows rules written text ended out
+  promised-output Leaves written same text ended out is =
+      let (out_is, ends) = is.output in
+      record { output = (out_is ∙ same text, ends); promise = keeps_promise text ended out out_is ends }

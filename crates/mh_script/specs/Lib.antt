@@ -1,5 +1,6 @@
 pub mod Texts
+pub mod Tasks
+pub mod Lines
 pub mod Run
 pub mod Promised
-pub mod OfMachine
-pub mod OfReasons
+pub mod Histories

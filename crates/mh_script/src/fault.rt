@@ -3,6 +3,7 @@
 use mh_machine::machine::Stop;
 use mh_model::memory::NoMemory;
 use mh_text::device::DeviceFailed;
+use mh_text::stream::ReadError;
 use thiserror::Error;
 
 /// The line that says that the source failed.
@@ -36,6 +37,19 @@ impl From<NoMemory> for ScriptFault {
 
     fn from(_error: NoMemory) -> ScriptFault {
         ScriptFault::NoMemory
+    }
+}
+
+impl From<ReadError> for ScriptFault {
+    ghost use Rattle.mh_script.specs.Texts.{IsReadFault};
+
+    ghost from_gives = { IsReadFault };
+
+    fn from(error: ReadError) -> ScriptFault {
+        match error {
+            ReadError::Device => ScriptFault::Read,
+            ReadError::NoMemory => ScriptFault::NoMemory,
+        }
     }
 }
 

@@ -10,14 +10,12 @@
 //! whole texts is here, where the two others use it.
 #![tactic(auto)]
 
-pub use mh_machine;
-pub use mh_machine::mh_scan;
-pub use mh_promise;
-pub use mh_reasons;
-
 pub mod end;
 pub mod fault;
+pub mod history;
+pub mod lines;
 pub mod replies;
 pub mod run;
+pub mod task;
 pub mod texts;
 pub mod transcript;

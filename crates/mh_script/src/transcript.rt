@@ -6,31 +6,24 @@
 //! A source is read until it has given more bytes than a script may have, and no further. The text is then refused with
 //! line 0 whatever comes after. The first 1,000,000 events are answered, as many as a history has entries. If more are
 //! left, the run then ends with `history full`.
-ghost use Rattle.std.specs.Prelude.{◌≡◌, ◌<◌, ◌≤◌, ◌^◌, List, length, take, IfOk, OnOk, OnErr, IsErrOf};
-ghost use Rattle.std.specs.Io.KnownBytes.{Appends, Keeps};
-ghost use Rattle.mh_model.specs.declared.command.Event.{Event};
-ghost use Rattle.mh_model.specs.declared.config.Config.{Config};
-ghost use Rattle.mh_model.specs.Bytes.{Text};
-ghost use Rattle.mh_model.specs.Configs.{with_rules};
-ghost use Rattle.mh_model.specs.Limits.{most_entries};
-ghost use Rattle.mh_model.specs.Output as model;
-ghost use Rattle.mh_model.specs.Script.{Means};
-ghost use Rattle.mh_text.specs.Stream.{AppendsBeginning};
-ghost use Rattle.mh_script.specs.Run.{EndsAs, HasReason, LeavesTranscript, Outputs, TakesToRun, WritesBeginning, transcript, transcript_of};
-ghost use Rattle.mh_script.specs.Texts.{LeavesSource, Blames, WantsMemory};
+ghost use Rattle.std.specs.Prelude.{◌≡◌, ◌≤◌, List, length, take, OnOk};
+ghost use Rattle.mh_model.specs.{declared.command.Event.Event, declared.config.Config.Config, Bytes.Text};
+ghost use Rattle.mh_model.specs.{Configs.with_rules, Limits.most_entries, Script.Means};
+ghost use Rattle.mh_script.specs.{Run.{IsTranscript, transcript_of}, Tasks.{IsDone, IsPerformed}, Texts.IsWriting};
 
 use crate::end::{End, LineRefusal};
 use crate::fault::{ScriptFault, WriteError};
-use crate::texts::{read_whole, write_verdict};
-use mh_machine::mh_scan::scan::Scanner;
+use crate::texts::write_verdict;
 use mh_model::command::Event;
 use mh_model::config::{Config, Rules};
 use mh_model::history::Verdict;
 use mh_model::limits::MOST_ENTRIES;
+use mh_scan::scan::Scanner;
 use mh_text::device::DeviceFailed;
 use mh_text::script::{SCRIPT_BYTES, Script, parse};
 use mh_text::sink::Sink;
 use mh_text::source::Source;
+use mh_text::stream::read_text;
 use mh_text::text_error::TextError;
 use std::alloc::Global;
 
@@ -56,13 +49,8 @@ pub trait Transcript {
     ) -> Result<(), WriteError>
         requires short { length script.now ≤ SCRIPT_BYTES }
         requires few { length events.now ≤ most_entries }
-        requires count { W.failures sink.old < 2 ^ 62 }
         ensures becomes { OnOk result (becomes self.old config events.now self.new) }
-        ensures done { OnOk result (Appends (W.written sink.old) (W.written sink.new) (text_of self.old script.now config events.now)) }
-        ensures begun { OnErr result (AppendsBeginning (W.written sink.old) (W.written sink.new) (text_of self.old script.now config events.now)) }
-        ensures no_failure { OnOk result (W.failures sink.new ≡ W.failures sink.old) }
-        ensures blamed { IsErrOf result WriteError.Device → W.failures sink.old < W.failures sink.new }
-        ensures not_blamed { IsErrOf result WriteError.NoMemory → W.failures sink.new ≡ W.failures sink.old };
+        ensures written { IsWriting (W.device sink.old) (W.device sink.new) (text_of self.old script.now config events.now) result };
 }
 
 /// The events that are answered.
@@ -85,17 +73,40 @@ fn write_answers<T: Transcript, C: Scanner, W: Sink>(
     sink: &mut W,
 ) -> Result<(), WriteError>
     requires short { length text.now ≤ SCRIPT_BYTES }
-    requires count { W.failures sink.old < 2 ^ 62 }
     ensures becomes { OnOk result (T.becomes form.old (with_rules rules script.now.config) (take most_entries script.now.events) form.new) }
-    ensures done { OnOk result (Appends (W.written sink.old) (W.written sink.new) (transcript_of (T.text_of form.old text.now) rules (Means script.now))) }
-    ensures begun { OnErr result (AppendsBeginning (W.written sink.old) (W.written sink.new) (transcript_of (T.text_of form.old text.now) rules (Means script.now))) }
-    ensures no_failure { OnOk result (W.failures sink.new ≡ W.failures sink.old) }
-    ensures blamed { IsErrOf result WriteError.Device → W.failures sink.old < W.failures sink.new }
-    ensures not_blamed { IsErrOf result WriteError.NoMemory → W.failures sink.new ≡ W.failures sink.old }
+    ensures written { IsWriting (W.device sink.old) (W.device sink.new) (transcript_of (T.text_of form.old text.now) rules (Means script.now)) result }
 {
     let config = script.config().with_rules(rules);
     let events = answered(script.events());
     form.write(alloc, text, config, events, scanner, sink)
+}
+
+/// Writes the transcript of the run of a text, or the one line that names its first bad line.
+// The loop over events is built into whoever reads the text, where its values stay in registers.
+#[inline(always)]
+fn write_transcript<T: Transcript, C: Scanner, W: Sink>(
+    alloc: Global,
+    form: &mut T,
+    text: &[u8],
+    rules: Rules,
+    scanner: &mut C,
+    sink: &mut W,
+) -> Result<End, ScriptFault>
+    ensures { IsPerformed (IsTranscript (T.text_of form.old) rules (λ config events. T.becomes form.old config events form.new)) (W.device sink.old) (W.device sink.new) result text.now }
+{
+    match parse(alloc, text) {
+        Ok(script) => match write_answers(alloc, form, text, &script, rules, scanner, sink) {
+            Ok(()) if script.events().len() > MOST_ANSWERED => Err(ScriptFault::HistoryFull),
+            Ok(()) => Ok(End::Done),
+            Err(WriteError::Device) => Err(ScriptFault::Write),
+            Err(WriteError::NoMemory) => Err(ScriptFault::NoMemory),
+        },
+        Err(TextError::Line(line)) => match write_verdict(Verdict::Refused(line), sink) {
+            Ok(()) => Ok(End::Refused(LineRefusal::of(text, line))),
+            Err(DeviceFailed) => Err(ScriptFault::Write),
+        },
+        Err(TextError::NoMemory) => Err(ScriptFault::NoMemory),
+    }
 }
 
 /// Reads a whole script, and then writes the transcript of its run under these rules. Of a script that is outside the grammar
@@ -108,31 +119,8 @@ pub fn transcribe<T: Transcript, C: Scanner, S: Source, W: Sink>(
     rules: Rules,
     scanner: &mut C,
 ) -> Result<End, ScriptFault>
-    requires source_count { S.failures source.old < 2 ^ 62 }
-    requires sink_count { W.failures sink.old < 2 ^ 62 }
-    ensures ends { IfOk result (EndsAs (transcript (T.text_of form.old) rules) (S.rest source.old) (W.written sink.old) (W.written sink.new)) }
-    ensures becomes { IfOk result (LeavesTranscript (λ config events. T.becomes form.old config events form.new) rules (S.rest source.old)) }
-    ensures reason { IfOk result (HasReason (S.rest source.old)) }
-    ensures begun { OnErr result (WritesBeginning (transcript (T.text_of form.old) rules) (S.rest source.old) (W.written sink.old) (W.written sink.new)) }
-    ensures full { IsErrOf result ScriptFault.HistoryFull → Outputs (transcript (T.text_of form.old) rules) (S.rest source.old) (W.written sink.old) (W.written sink.new) model.HistoryFull }
-    ensures unread { IsErrOf result ScriptFault.Read → Keeps (W.written sink.old) (W.written sink.new) }
-    ensures memory { IsErrOf result ScriptFault.NoMemory → WantsMemory TakesToRun (S.rest source.old) (S.rest source.new) }
-    ensures taken { LeavesSource SCRIPT_BYTES (S.rest source.old) (S.rest source.new) result }
-    ensures blames { Blames (S.failures source.old) (S.failures source.new) (W.failures sink.old) (W.failures sink.new) result }
+    ensures { IsDone (IsTranscript (T.text_of form.old) rules (λ config events. T.becomes form.old config events form.new)) SCRIPT_BYTES (S.device source.old) (S.device source.new) (W.device sink.old) (W.device sink.new) result }
 {
-    let text = read_whole(alloc, source, SCRIPT_BYTES)?;
-    let bytes = text.as_slice();
-    match parse(alloc, bytes) {
-        Ok(script) => match write_answers(alloc, form, bytes, &script, rules, scanner, sink) {
-            Ok(()) if script.events().len() > MOST_ANSWERED => Err(ScriptFault::HistoryFull),
-            Ok(()) => Ok(End::Done),
-            Err(WriteError::Device) => Err(ScriptFault::Write),
-            Err(WriteError::NoMemory) => Err(ScriptFault::NoMemory),
-        },
-        Err(TextError::Line(line)) => match write_verdict(Verdict::Refused(line), sink) {
-            Ok(()) => Ok(End::Refused(LineRefusal::of(bytes, line))),
-            Err(DeviceFailed) => Err(ScriptFault::Write),
-        },
-        Err(TextError::NoMemory) => Err(ScriptFault::NoMemory),
-    }
+    let text = read_text(alloc, source, SCRIPT_BYTES)?;
+    write_transcript(alloc, form, text.as_slice(), rules, scanner, sink)
 }

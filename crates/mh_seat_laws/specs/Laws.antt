@@ -1,12 +1,9 @@
 -- What the rules of the claim word and of the lock give, and what keeps them. The crates of both cite these laws.
 use Rattle.std.specs.Prelude.{◌≡◌, ℕ, ◌<◌, ◌≤◌, true, List, [], length, get_or}
 use Rattle.atomic_table.specs.Table.{State}
-use Rattle.mh_model.specs.declared.command.Event.{Event}
-use Rattle.mh_model.specs.declared.history.Entry.{Entry}
+use Rattle.mh_model.specs.{declared.command.Event.Event, declared.history.Entry.Entry}
 use Rattle.mh_model.specs.History.{owner_of, ClaimState, has_ended, LockState, AreLogs, IsKeptBy}
-use Rattle.mh_seat_laws.specs.Lock.{IsLocked, Shows}
-use Rattle.mh_seat_laws.specs.Merges.{IsMerge}
-use Rattle.mh_seat_laws.specs.declared.seat_view.SeatView.{SeatView}
+use Rattle.mh_seat_laws.specs.{Lock.{IsLocked, Shows}, Merges.IsMerge, declared.seat_view.SeatView.SeatView}
 
 -- The claim word ---------------------------------------------------------------------------------
 

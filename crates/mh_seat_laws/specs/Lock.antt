@@ -7,8 +7,7 @@ use mathlib.Core.Option.{some}
 use lib.ListN.{get_elem?}
 use Rattle.atomic_table.specs.Table.{State}
 use Rattle.mh_model.specs.History.{LockState, owned_by}
-use Rattle.mh_seat_laws.specs.Weights.{weigh_below, total}
-use Rattle.mh_seat_laws.specs.declared.seat_view.Found.{Found}
+use Rattle.mh_seat_laws.specs.{Weights.{weigh_below, total}, declared.seat_view.FoundValue.FoundValue}
 use Rattle.mh_seat_laws.specs.declared.seat_view.SeatView.{SeatView}
 
 -- the number and the log of each seat
@@ -85,5 +84,5 @@ pub record Shows {T E O : Type 0} (entries : T → List E) (seats : ℕ) (table 
   pub word : lock.word ≡ slice_index table.words 0
   pub many : length lock.logs ≡ seats
   pub logs : (id : ℕ) (view : SeatView E O) → get_elem? table.views id ≡ some view → StandIn lock.logs view.logs
-  pub taken : (id : ℕ) (view : SeatView E O) (found : Found E O) → get_elem? table.views id ≡ some view → view.found ≡ Some found → get_or lock.taken (first view.logs).0 None ≡ Some found.history
+  pub taken : (id : ℕ) (view : SeatView E O) (found : FoundValue E O) → get_elem? table.views id ≡ some view → view.found ≡ Some found → get_or lock.taken (first view.logs).0 None ≡ Some found.history
   pub home : (value : T) → lock.word ≡ 0 → get_elem? table.homes 0 ≡ some (some value) → lock.home ≡ Some (entries value)

@@ -5,4 +5,4 @@
 pub mod lock;
 mod seat_view;
 
-pub use seat_view::{Found, SeatView};
+pub use seat_view::{FoundValue, SeatView};

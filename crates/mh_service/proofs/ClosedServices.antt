@@ -1,12 +1,8 @@
 -- What a service leaves is what its state was.
 use Rattle.std.proofs.Common.{◌≡◌, ℕ, List}
-use Rattle.mh_model.specs.History.{events_of, replies_of}
-use Rattle.mh_model.specs.declared.config.Config.{Config}
-use Rattle.mh_model.specs.declared.history.Entry.{Entry}
-use Rattle.mh_model.specs.Pages.{free_pages}
-use Rattle.mh_model.specs.Mutator.{HeapState}
-use Rattle.mh_model.specs.Trace.{TraceState}
-use Rattle.mh_state.specs.OfPromise.Runs.{IsTheMachines}
+use Rattle.mh_model.specs.{History.{events_of, replies_of}, declared.config.Config.Config, declared.history.Entry.Entry}
+use Rattle.mh_model.specs.{Pages.free_pages, Mutator.HeapState, Trace.TraceState}
+use Rattle.mh_promise.specs.Runs.{IsTheMachines}
 use Rattle.mh_state.specs.Storing.{Stored, IsTheReplay}
 
 pub closed-machine : (config : Config) (state : Stored) (history : List Entry) (heap : HeapState) (free : ℕ) (trace : TraceState)

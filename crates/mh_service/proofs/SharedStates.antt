@@ -2,21 +2,16 @@
 use Rattle.std.proofs.Common.{arith, ◌≡◌, ◌++◌, [], ◌∷◌, List, length, get_or, Some, map, All, Result, Ok, Err, MatchResult, IfOk, OnErr, IsErrOf, refl, ap, sym, ◌∙◌, subst}
 use Rattle.std.proofs.lemmas.List.{length-append, map-append}
 use Rattle.mh_lock.specs.Seats.{LockView, LockSeatView, IsKeptAtHome}
-use Rattle.mh_model.specs.declared.command.Event.{Event}
-use Rattle.mh_model.specs.declared.config.Config.{Config}
-use Rattle.mh_model.specs.declared.history.Entry.{Entry}
+use Rattle.mh_model.specs.{declared.command.Event.Event, declared.config.Config.Config, declared.history.Entry.Entry}
 use Rattle.mh_model.specs.declared.reply.Reply.{Reply}
-use Rattle.mh_model.specs.History.{IsLegal, AreLogs, owner_of, owned_by, events_of, replies_of}
-use Rattle.mh_model.specs.Limits.{most_entries}
-use Rattle.mh_model.specs.World.{says}
-use Rattle.mh_model.specs.Machine.{event_step}
-use Rattle.mh_state.specs.OfPromise.Replays.{EventsKeepTheReplay, IsReplay}
+use Rattle.mh_model.specs.{History.{IsLegal, AreLogs, owner_of, owned_by, events_of, replies_of}, Limits.most_entries}
+use Rattle.mh_model.specs.{World.says, Machine.event_step}
+use Rattle.mh_promise.specs.Replays.{EventsKeepTheReplay, IsReplay}
 use Rattle.mh_seat_laws.specs.Laws.{LogsMergeToTheHistory}
 use Rattle.mh_service.specs.Services.{ServiceView, IsServed, AreMerged}
 use Rattle.mh_service.specs.Sharing.{IsReplayed, IsReplayOf, IsDone, IsRefused}
 use Rattle.mh_state.specs.Storing.{Stored, KeepsState, MayWantMemory, first_stored, with_entry}
-use Rattle.mh_state.specs.OfMachine.Stop.{Stop}
-use Rattle.mh_state.specs.OfMachine.Stop.TheVariants as stop
+use Rattle.mh_machine.specs.declared.machine.Stop.{Stop}
 
 -- a state with the machine and the history of a replay is one too
 pub kept-replayed : (found left : Stored) → IsReplayed found → KeepsState found left → IsReplayed left
@@ -63,17 +58,17 @@ module _ (law : EventsKeepTheReplay) where
 
 -- what the state says of an event
 pub answered : (found left : Stored) (event : Event) (answer : Result Reply Stop) → IfOk answer (λ given. event_step found.machine event ≡ says given left.machine) → IfOk answer (λ given. left.history ≡ with_entry found.history event given)
-    → OnErr answer (KeepsState found left) → (IsErrOf answer stop.HistoryFull → length found.history ≡ most_entries) → (length found.history ≡ most_entries → IsErrOf answer stop.HistoryFull)
-    → (IsErrOf answer stop.NoMemory → MayWantMemory found event) → MatchResult answer (λ reply. IsDone event found reply left) (λ reason. IsRefused event found reason left)
+    → OnErr answer (KeepsState found left) → (IsErrOf answer Stop.HistoryFull → length found.history ≡ most_entries) → (length found.history ≡ most_entries → IsErrOf answer Stop.HistoryFull)
+    → (IsErrOf answer Stop.NoMemory → MayWantMemory found event) → MatchResult answer (λ reply. IsDone event found reply left) (λ reason. IsRefused event found reason left)
 answered found left event (Ok given) step entered stopped full ends memory = record { step = step; entered = entered }
 answered found left event (Err reason) step entered stopped full ends memory = record {
   unchanged = stopped;
-  full = (λ is. full (ap Err is), λ is. let told : Err reason ≡ Err stop.HistoryFull = ends is in cc);
+  full = (λ is. full (ap Err is), λ is. let told : Err reason ≡ Err Stop.HistoryFull = ends is in cc);
   memory = λ is. memory (ap Err is);
 }
 
 -- a full history is reported as full
-full-refuses : (config : Config) (event : Event) (answer : Result Reply Stop) (found left : Stored) → IsLegal config left.history → MatchResult answer (λ reply. IsDone event found reply left) (λ reason. IsRefused event found reason left) → length found.history ≡ most_entries → IsErrOf answer stop.HistoryFull
+full-refuses : (config : Config) (event : Event) (answer : Result Reply Stop) (found left : Stored) → IsLegal config left.history → MatchResult answer (λ reply. IsDone event found reply left) (λ reason. IsRefused event found reason left) → length found.history ≡ most_entries → IsErrOf answer Stop.HistoryFull
 full-refuses config event (Ok reply) found left legal done full =
     let entry : Entry = record { event = event; reply = reply } in
     absurd (omega (arith, full, legal.few, ap length done.entered, length-append found.history (entry ∷ [])))

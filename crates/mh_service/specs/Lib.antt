@@ -1,4 +1,2 @@
 pub mod Services
 pub mod Sharing
-pub mod OfState
-pub mod OfLock

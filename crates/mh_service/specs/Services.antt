@@ -2,19 +2,13 @@
 use Rattle.std.specs.Prelude.{◌≡◌, ℕ, List, [], All, Result, MatchResult, IsErrOf, get_or, length}
 use Rattle.atomic_table.specs.Seated.{TableId}
 use Rattle.mh_lock.specs.Seats.{LockSeatView}
-use Rattle.mh_model.specs.declared.command.Event.{Event}
-use Rattle.mh_model.specs.declared.config.Config.{Config}
-use Rattle.mh_model.specs.declared.history.Entry.{Entry}
-use Rattle.mh_model.specs.declared.reply.Reply.{Reply}
-use Rattle.mh_model.specs.History.{owner_of, owned_by, replies_of}
-use Rattle.mh_model.specs.Limits.{most_entries}
-use Rattle.mh_state.specs.OfPromise.Runs.{Outcome}
+use Rattle.mh_model.specs.{declared.command.Event.Event, declared.config.Config.Config, declared.history.Entry.Entry}
+use Rattle.mh_model.specs.{declared.reply.Reply.Reply, History.{owner_of, owned_by, replies_of}, Limits.most_entries}
+use Rattle.mh_promise.specs.Runs.{Outcome}
 use Rattle.mh_seat_laws.specs.Merges.{IsMerge}
-use Rattle.mh_service.specs.declared.service.Closed.{Closed}
-use Rattle.mh_service.specs.Sharing.{IsReplayOf, IsDone, IsRefused}
+use Rattle.mh_service.specs.{declared.service.Closed.Closed, Sharing.{IsReplayOf, IsDone, IsRefused}}
 use Rattle.mh_state.specs.Storing.{Stored}
-use Rattle.mh_state.specs.OfMachine.Stop.{Stop}
-use Rattle.mh_state.specs.OfMachine.Stop.TheVariants as stop
+use Rattle.mh_machine.specs.declared.machine.Stop.{Stop}
 
 -- A service: the table of its lock, and its configuration
 pub record ServiceView : Type 0 where
@@ -55,4 +49,4 @@ pub record IsServed (service : ServiceView) (before after : LockSeatView Entry) 
   pub log_found : before.log ≡ owned_by (λ entry. owner_of entry.event) before.number found.history
   pub log_left : after.log ≡ owned_by (λ entry. owner_of entry.event) after.number left.history
   pub done : MatchResult answer (λ reply. IsDone event found reply left) (λ reason. IsRefused event found reason left)
-  pub ends : length found.history ≡ most_entries → IsErrOf answer stop.HistoryFull
+  pub ends : length found.history ≡ most_entries → IsErrOf answer Stop.HistoryFull

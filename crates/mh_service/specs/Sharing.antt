@@ -1,16 +1,11 @@
 -- The stored state under the lock of a service, and what an event does to it.
 use Rattle.std.specs.Prelude.{◌≡◌, ◌↔◌, length}
-use Rattle.mh_model.specs.declared.command.Event.{Event}
-use Rattle.mh_model.specs.declared.config.Config.{Config}
-use Rattle.mh_model.specs.declared.reply.Reply.{Reply}
-use Rattle.mh_model.specs.History.{IsLegal, events_of, replies_of}
-use Rattle.mh_model.specs.Limits.{most_entries}
-use Rattle.mh_model.specs.Machine.{event_step}
+use Rattle.mh_model.specs.{declared.command.Event.Event, declared.config.Config.Config, declared.reply.Reply.Reply}
+use Rattle.mh_model.specs.{History.{IsLegal, events_of, replies_of}, Limits.most_entries, Machine.event_step}
 use Rattle.mh_model.specs.World.{says}
-use Rattle.mh_state.specs.OfPromise.Replays.{IsReplay}
+use Rattle.mh_promise.specs.Replays.{IsReplay}
 use Rattle.mh_state.specs.Storing.{Stored, KeepsState, MayWantMemory, with_entry, IsTheReplay, KeepsItsPromise}
-use Rattle.mh_state.specs.OfMachine.Stop.{Stop}
-use Rattle.mh_state.specs.OfMachine.Stop.TheVariants as stop
+use Rattle.mh_machine.specs.declared.machine.Stop.{Stop}
 
 -- the machine is that of its history, which is legal
 pub record IsReplayed (stored : Stored) : Type 0 where
@@ -32,5 +27,5 @@ pub record IsDone (event : Event) (found : Stored) (given : Reply) (left : Store
 -- An event was refused: the state is unchanged; a full history is the reason just when it is full, and refused memory only if the event may ask for memory
 pub record IsRefused (event : Event) (found : Stored) (reason : Stop) (left : Stored) : Type 0 where
   pub unchanged : KeepsState found left
-  pub full : (reason ≡ stop.HistoryFull) ↔ (length found.history ≡ most_entries)
-  pub memory : reason ≡ stop.NoMemory → MayWantMemory found event
+  pub full : (reason ≡ Stop.HistoryFull) ↔ (length found.history ≡ most_entries)
+  pub memory : reason ≡ Stop.NoMemory → MayWantMemory found event

@@ -6,10 +6,6 @@
 //! opened with (`ClosedServices`).
 #![tactic(auto)]
 
-pub use mh_seat_laws;
-pub use mh_state;
-pub use mh_state::mh_scan;
-
 mod job;
 pub mod seat;
 pub mod service;

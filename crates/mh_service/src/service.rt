@@ -18,10 +18,8 @@
 //! The service borrows the hook, so whoever holds a session or a worker can look at the hook afterwards.
 ghost use Rattle.std.specs.Prelude.{◌≡◌, ◌≢◌, ◌<◌, ◌≤◌, ◌==◌, ◌⊎◌, [], ◌∷◌, ◌++◌, ℕ, All, IfOk, OnOk, IfErr, OnErr, IsErrOf, count_by, slice_index_or, vec_len};
 ghost use Rattle.mh_lock.specs.Seats.{LockSeatView};
-ghost use Rattle.mh_model.specs.History.{IsLegal, owner_of, owned_by, events_of};
-ghost use Rattle.mh_model.specs.declared.history.Entry.{Entry};
-ghost use Rattle.mh_state.specs.OfPromise.Runs.{IsTheMachines};
-ghost use Rattle.mh_state.specs.OfPromise.Promise.{IsPromised};
+ghost use Rattle.mh_model.specs.{History.{IsLegal, owner_of, owned_by, events_of}, declared.history.Entry.Entry};
+ghost use Rattle.mh_promise.specs.{Runs.IsTheMachines, Promise.IsPromised};
 ghost use Rattle.mh_service.specs.Services.{IsOfService, first_seat, Owns, IsServed, AreMerged, shown_left};
 
 use crate::job::{Job, Shared};
@@ -33,11 +31,11 @@ use mh_model::config::Config;
 use mh_model::history::Entry;
 use mh_model::memory::NoMemory;
 use mh_model::reply::Reply;
+use mh_paged::paged::PagedHeap;
+use mh_report::trace::Trace;
+use mh_scan::crew_scan::{CrewGate, CrewScan};
 use mh_seat_laws::lock::logs_merge_to_the_history;
 use mh_state::machine::Stop;
-use mh_state::mh_paged::paged::PagedHeap;
-use mh_state::mh_report::trace::Trace;
-use mh_state::mh_scan::crew_scan::{CrewGate, CrewScan};
 use std::alloc::Global;
 use std::marker::Model;
 use std::sync::Wait;

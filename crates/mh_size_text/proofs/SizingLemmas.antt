@@ -1,58 +1,63 @@
--- What was read of a source settles how its script is sized.
-use Rattle.std.proofs.Common.{◌≡◌, ℕ, ◌<◌, ◌≤◌, ◌∙◌, Bool, true, false, if◌then◌else◌, nat_lt, length, Option, ap, subst, sym, refl, arith}
-use Rattle.std.proofs.lemmas.Bool.Decides.{nat_tests}
-use Rattle.std.specs.Io.KnownBytes.{Appends}
-use Rattle.mh_model.specs.Bytes.{Text, line_text}
-use Rattle.mh_model.specs.Limits.{most_entries}
-use Rattle.mh_model.specs.Output.{Done, Ending, HistoryFull, Refused, ending, ending_of}
-use Rattle.mh_model.specs.Replies.{bad_line_text}
+-- How the sizing of a script ends that reads so.
+use Rattle.std.proofs.Common.{◌≡◌, ◌∙◌, ℕ, ◌<◌, ◌≤◌, ◌++◌, Bool, true, false, [], length, inr, ap, subst, sym, refl, length-append, arith}
+use Rattle.std.specs.Prelude.{Result, Ok, Err, IsErrAnd}
+use Rattle.mh_model.specs.{Bytes.{Text, line_text}, Limits.most_entries, Replies.bad_line_text}
 use Rattle.mh_model.specs.Script.{BadLine, Meaning, Means, Reading, reading}
 use Rattle.mh_orders.specs.declared.order.SizeOptions.{SizeOptions}
-use Rattle.mh_script.proofs.SourceLemmas.{Reads}
-use Rattle.mh_script.specs.Texts.{Writes}
-use Rattle.mh_text.specs.Stream.{AppendsBeginning}
-use Rattle.mh_size_text.specs.Scripts.{BeginsToSize, IsSizeText, Sizing, SizesTo, WritesPart, ended_with}
+use Rattle.mh_model.proofs.ScriptLemmas.{reading_long}
+use Rattle.mh_text.specs.Devices.{Device, Takes}
+use Rattle.mh_reasons.specs.Reasons.{IsReason}
+use Rattle.mh_script.specs.{declared.end.End.End, declared.end.LineRefusal.LineRefusal}
+use Rattle.mh_script.specs.declared.fault.ScriptFault.{ScriptFault}
+use Rattle.mh_script.specs.declared.fault.ScriptFault.TheVariants.{Read, Write, NoMemory, HistoryFull}
+use Rattle.mh_script.specs.Tasks.{IsPerformed}
+use Rattle.mh_script.proofs.{RunLemmas.{ends-as, ends-few, ends-many, may-long}, TakenLemmas.takes-none}
+use Rattle.mh_size_text.specs.{declared.end.SizeEnd.SizeEnd, declared.end.SizeEnd.TheVariants.{Sized, NoSize, Refused}}
+use Rattle.mh_size_text.specs.Scripts.{IsSizeText, IsSized, MayEndSized, ended_with}
 
-ending_many : (meaning : Meaning) → most_entries < length meaning.events → ending_of (Means meaning) ≡ HistoryFull
-ending_many meaning many =
-    let is : nat_lt most_entries (length meaning.events) ≡ true = grind (arith, nat_tests) in
-    ap (λ b. if b then HistoryFull else Done) is
+-- memory was refused before anything was written
+pub starved : (options : SizeOptions) (text : Text) (script : Meaning) (sink : Device) (ended : Result SizeEnd ScriptFault) → reading text ≡ Means script → IsErrAnd ended (λ fault. fault ≡ NoMemory) → IsPerformed (IsSized options) sink sink ended text
+starved options text script sink (Ok end) is refused = absurd refused
+starved options text script sink (Err fault) is refused =
+    subst (λ f. IsPerformed (IsSized options) sink sink (Err f) text) (sym refused) (record { written = []; does = (inr (script, is), refl); wrote = takes-none sink [] })
 
-ending_few : (meaning : Meaning) → length meaning.events ≤ most_entries → ending_of (Means meaning) ≡ Done
-ending_few meaning few =
-    let is : nat_lt most_entries (length meaning.events) ≡ false = grind (arith, nat_tests) in
-    ap (λ b. if b then HistoryFull else Done) is
+module _ (options : SizeOptions) (text : Text) (script : Meaning) (is : reading text ≡ Means script) (found : Bool) (out : Text) (sizes : IsSizeText options found (Means script) out) where
+  sized : IsSizeText options found (reading text) out
+  sized = subst (λ (r : Reading Meaning). IsSizeText options found r out) (sym is) sizes
 
-module _ (options : SizeOptions) {known : Option Text} {text : Text} (reads : Reads reading 67108864 known text) (old new : Option Text) where
-  sizes_reads : (found : Bool) (r : Reading Meaning) (ended : Ending) → reading text ≡ r → Writes (IsSizeText options found r) old new → ending_of r ≡ ended → Sizing options found known old new ended
-  unfolding ending
-  sizes_reads found r ended is wrote ends =
-      let P : Reading Meaning → Type 0 = λ r. Writes (IsSizeText options found r) old new in
-      record {
-        script = reads.whole;
-        is_script = reads.is_text;
-        ends = ap ending_of (reads.same ∙ is) ∙ ends;
-        wrote = subst P (sym (reads.same ∙ is)) wrote;
-      }
-
-  sizes_few : (found : Bool) (meaning : Meaning) → reading text ≡ Means meaning → Writes (IsSizeText options found (Means meaning)) old new → length meaning.events ≤ most_entries → Sizing options found known old new Done
-  sizes_few found meaning is wrote few = sizes_reads found (Means meaning) Done is wrote (ending_few meaning few)
+  pub sized_many : {sink sink' : Device} → most_entries < length script.events → Takes sink sink' out → IsPerformed (IsSized options) sink sink' (Err HistoryFull) text
+  sized_many many takes = record { written = out; does = (found, sized, ends-many text script is many); wrote = takes }
 
   -- a script that was sized, by whether some pages suffice
-  pub sizes_to : (found : Bool) (meaning : Meaning) → reading text ≡ Means meaning → Writes (IsSizeText options found (Means meaning)) old new → length meaning.events ≤ most_entries → SizesTo options known old new (ended_with found)
-  sizes_to true meaning is wrote few = sizes_few true meaning is wrote few
-  sizes_to false meaning is wrote few = sizes_few false meaning is wrote few
+  pub sized_few : {sink sink' : Device} → length script.events ≤ most_entries → Takes sink sink' out → IsPerformed (IsSized options) sink sink' (Ok (ended_with found)) text
+  sized_few {sink} {sink'} few takes = by found refl where
+    by : (b : Bool) → found ≡ b → IsPerformed (IsSized options) sink sink' (Ok (ended_with b)) text
+    by true same = record { written = out; does = (found, sized, (ends-few text script is few, same)); wrote = takes }
+    by false same = record { written = out; does = (found, sized, (ends-few text script is few, same)); wrote = takes }
 
-  pub sizes_many : (found : Bool) (meaning : Meaning) → reading text ≡ Means meaning → Writes (IsSizeText options found (Means meaning)) old new → most_entries < length meaning.events → Sizing options found known old new HistoryFull
-  sizes_many found meaning is wrote many = sizes_reads found (Means meaning) HistoryFull is wrote (ending_many meaning many)
+-- a script whose first bad line has its reason
+pub bad_line : (options : SizeOptions) (text : Text) (line : ℕ) (refusal : LineRefusal) {sink sink' : Device} → reading text ≡ BadLine line → refusal.line ≡ line → IsReason text line refusal.reason → Takes sink sink' (line_text (bad_line_text line))
+    → IsPerformed (IsSized options) sink sink' (Ok (Refused refusal)) text
+bad_line options text line refusal is same reason takes = record {
+  written = line_text (bad_line_text line);
+  does = (false, subst (λ (r : Reading Meaning). IsSizeText options false r (line_text (bad_line_text line))) (sym is) refl, (ends-as text (is ∙ ap BadLine (sym same)), subst (λ n. IsReason text n refusal.reason) (sym same) reason));
+  wrote = takes;
+}
 
-  pub sizes_bad : (line : ℕ) → reading text ≡ BadLine line → Appends old new (line_text (bad_line_text line)) → Sizing options false known old new (Refused line)
-  sizes_bad line is wrote = sizes_reads false (BadLine line) (Refused line) is (_, refl, wrote) refl
+-- of a text that is too long the same is written whatever comes after
+pub sized-long : (options : SizeOptions) (text rest : Text) (ended : Result SizeEnd ScriptFault) (out : Text) → 67108864 < length text → IsSized options text ended out → IsSized options (text ++ rest) ended out
+sized-long options text rest ended out long = by ended where
+  same : reading text ≡ reading (text ++ rest)
+  same = reading_long text long ∙ sym (reading_long (text ++ rest) (omega (arith, long, length-append text rest)))
 
-  pub begins_reads : (found : Bool) (r : Reading Meaning) → reading text ≡ r → WritesPart (IsSizeText options found r) old new → BeginsToSize options known old new
-  begins_reads found r is wrote =
-      let P : Reading Meaning → Type 0 = λ r. WritesPart (IsSizeText options found r) old new in
-      record { script = reads.whole; is_script = reads.is_text; found = found; wrote = subst P (sym (reads.same ∙ is)) wrote }
+  sizes : (found : Bool) → IsSizeText options found (reading text) out → IsSizeText options found (reading (text ++ rest)) out
+  sizes found is = subst (λ (r : Reading Meaning). IsSizeText options found r out) same is
 
-  pub begins_bad : (line : ℕ) → reading text ≡ BadLine line → AppendsBeginning old new (line_text (bad_line_text line)) → BeginsToSize options known old new
-  begins_bad line is wrote = begins_reads false (BadLine line) is (_, refl, wrote)
+  by : (e : Result SizeEnd ScriptFault) → IsSized options text e out → IsSized options (text ++ rest) e out
+  by (Ok Sized) (found, is, (ends, some)) = (found, sizes found is, (may-long text rest long (Ok End.Done) ends, some))
+  by (Ok NoSize) (found, is, (ends, none)) = (found, sizes found is, (may-long text rest long (Ok End.Done) ends, none))
+  by (Ok (Refused refusal)) (found, is, ends) = (found, sizes found is, may-long text rest long (Ok (End.Refused refusal)) ends)
+  by (Err NoMemory) (ends, none) = (may-long text rest long (Err NoMemory) ends, none)
+  by (Err HistoryFull) (found, is, ends) = (found, sizes found is, may-long text rest long (Err HistoryFull) ends)
+  by (Err Read) (found, is, ends) = (found, sizes found is, tt)
+  by (Err Write) (found, is, ends) = (found, sizes found is, tt)

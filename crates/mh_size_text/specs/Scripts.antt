@@ -1,29 +1,15 @@
 -- What the sizing of a script has read and written.
-use Rattle.std.specs.Prelude.{◌≡◌, ℕ, ◌+◌, ◌*◌, Bool, true, false, Option, unwrap_or, Result, List, take, IfOk, IsErrOf}
-use Rattle.std.specs.Io.KnownBytes.{Keeps}
-use Rattle.mh_model.specs.declared.command.Event.{Event}
-use Rattle.mh_model.specs.declared.config.Config.{Config}
-use Rattle.mh_model.specs.Bytes.{Text, line_text}
-use Rattle.mh_model.specs.Configs.{with_rules}
-use Rattle.mh_model.specs.Limits.{most_entries}
-use Rattle.mh_model.specs.Output as model
-use Rattle.mh_model.specs.Output.{Ending, ending}
-use Rattle.mh_model.specs.Replies.{bad_line_text}
+use Rattle.std.specs.Prelude.{◌≡◌, ℕ, ◌+◌, ◌*◌, Bool, true, false, unwrap_or, Result, Ok, Err, List, [], take}
+use Rattle.mh_model.specs.{declared.command.Event.Event, declared.config.Config.Config, Bytes.{Text, line_text}}
+use Rattle.mh_model.specs.{Configs.with_rules, Limits.most_entries, Replies.bad_line_text}
 use Rattle.mh_model.specs.Script.{BadLine, Meaning, Means, Reading, reading}
 use Rattle.mh_orders.specs.declared.order.SizeOptions.{SizeOptions}
-use Rattle.mh_script.specs.declared.end.End.TheVariants as end
-use Rattle.mh_script.specs.declared.fault.ScriptFault.{ScriptFault}
-use Rattle.mh_script.specs.declared.fault.ScriptFault.TheVariants.{Read, Write, NoMemory, HistoryFull}
-use Rattle.mh_script.specs.Run.{Device, HasReason, TakesToRun}
-use Rattle.mh_script.specs.Texts.{Blames, IsTextOf, LeavesSource, WantsMemory, Writes}
-use Rattle.mh_text.specs.Stream.{AppendsBeginning}
-use Rattle.mh_size_text.specs.declared.end.SizeEnd.{SizeEnd}
-use Rattle.mh_size_text.specs.declared.end.SizeEnd.TheVariants.{Sized, NoSize, Refused}
-use Rattle.mh_size_text.specs.declared.sizes.Heaps.{Heaps}
-use Rattle.mh_size_text.specs.declared.sizes.Heaps.TheVariants.{Found, Nowhere}
-use Rattle.mh_size_text.specs.declared.sizes.Sizes.{Sizes}
-use Rattle.mh_size_text.specs.Sizes.{AreSizes}
-use Rattle.mh_size_text.specs.Texts.{sizes_text}
+use Rattle.mh_script.specs.{declared.end.End.End, declared.fault.ScriptFault.ScriptFault}
+use Rattle.mh_script.specs.{declared.fault.ScriptFault.TheVariants.NoMemory, Run.MayEndSo, Tasks.IsDone}
+use Rattle.mh_text.specs.Devices.{Device}
+use Rattle.mh_size_text.specs.{declared.end.SizeEnd.SizeEnd, declared.end.SizeEnd.TheVariants.{Sized, NoSize, Refused}}
+use Rattle.mh_size_text.specs.{declared.sizes.Heaps.Heaps, declared.sizes.Heaps.TheVariants.{Found, Nowhere}}
+use Rattle.mh_size_text.specs.{declared.sizes.Sizes.Sizes, Sizes.AreSizes, Texts.sizes_text}
 
 -- Texts ------------------------------------------------------------------------------------------
 
@@ -50,10 +36,6 @@ IsSizeText options found (Means script) text =
     let config = with_rules options.rules script.config in
     IsTextOfRun config (take most_entries script.events) (window_of options config) text found
 
--- a prefix of a text of this kind was written, and nothing else
-abbrev pub WritesPart : (Text → Type 0) → Option Text → Option Text → Type 0
-WritesPart Is old new = (whole : Text) × Is whole × AppendsBeginning old new whole
-
 -- how a sizing ended that was written
 abbrev pub ended_with : Bool → SizeEnd
 ended_with true = Sized
@@ -61,39 +43,18 @@ ended_with false = NoSize
 
 -- Sizings ----------------------------------------------------------------------------------------
 
--- what is to be written of the source's script was written whole, and a run of that script ends so
-pub record Sizing (options : SizeOptions) (found : Bool) (known old new : Option Text) (ended : Ending) : Type 0 where
-  pub script : Text
-  pub is_script : IsTextOf known script
-  pub ends : ending script ≡ ended
-  pub wrote : Writes (IsSizeText options found (reading script)) old new
+-- how the sizing of a text may end that found this: as its run
+abbrev pub MayEndSized : Bool → Text → Result SizeEnd ScriptFault → Type 0
+MayEndSized found text (Ok Sized) = MayEndSo text (Ok End.Done) × (found ≡ true)
+MayEndSized found text (Ok NoSize) = MayEndSo text (Ok End.Done) × (found ≡ false)
+MayEndSized found text (Ok (Refused refusal)) = MayEndSo text (Ok (End.Refused refusal))
+MayEndSized found text (Err fault) = MayEndSo text (Err fault)
 
--- a prefix of it was written
-pub record BeginsToSize (options : SizeOptions) (known old new : Option Text) : Type 0 where
-  pub script : Text
-  pub is_script : IsTextOf known script
-  pub found : Bool
-  pub wrote : WritesPart (IsSizeText options found (reading script)) old new
-
--- what a sizing that ended well has read and written
-abbrev pub SizesTo : SizeOptions → Option Text → Option Text → Option Text → SizeEnd → Type 0
-SizesTo options known old new Sized = Sizing options true known old new model.Done
-SizesTo options known old new NoSize = Sizing options false known old new model.Done
-SizesTo options known old new (Refused refusal) = Sizing options false known old new (model.Refused refusal.line)
-
--- a line that was refused has its reason
-abbrev pub HasItsReason : Option Text → SizeEnd → Type 0
-HasItsReason known (Refused refusal) = HasReason known (end.Refused refusal)
-HasItsReason known ended = Unit {0}
+-- This is to be written of a script if its sizing ended so: nothing if memory is refused
+abbrev pub IsSized : SizeOptions → Text → Result SizeEnd ScriptFault → Text → Type 0
+IsSized options text (Err NoMemory) out = MayEndSo text (Err NoMemory) × (out ≡ [])
+IsSized options text ended out = (found : Bool) × IsSizeText options found (reading text) out × MayEndSized found text ended
 
 -- The script of a source was sized into a sink, and how that ended
-pub record IsSizing (options : SizeOptions) (source source' sink sink' : Device) (ended : Result SizeEnd ScriptFault) : Type 0 where
-  pub ends : IfOk ended (SizesTo options source.bytes sink.bytes sink'.bytes)
-  pub reason : IfOk ended (HasItsReason source.bytes)
-  pub begun : IsErrOf ended Write → BeginsToSize options source.bytes sink.bytes sink'.bytes
-  pub full : IsErrOf ended HistoryFull → (found : Bool) × Sizing options found source.bytes sink.bytes sink'.bytes model.HistoryFull
-  pub unread : IsErrOf ended Read → Keeps sink.bytes sink'.bytes
-  pub unwritten : IsErrOf ended NoMemory → Keeps sink.bytes sink'.bytes
-  pub memory : IsErrOf ended NoMemory → WantsMemory TakesToRun source.bytes source'.bytes
-  pub taken : LeavesSource 67108864 source.bytes source'.bytes ended
-  pub blames : Blames source.failures source'.failures sink.failures sink'.failures ended
+abbrev pub IsSizing : SizeOptions → (source source' sink sink' : Device) → Result SizeEnd ScriptFault → Type 0
+IsSizing options = IsDone (IsSized options) 67108864

@@ -1,16 +1,8 @@
 -- The sizes of a script.
-use Rattle.std.specs.Prelude.{ℕ, ◌*◌, min, List}
-use Rattle.std.specs.Int.{div_ceil}
-use Rattle.mh_model.specs.declared.command.Event.{Event}
-use Rattle.mh_model.specs.declared.config.Config.{Config}
-use Rattle.mh_seen.specs.declared.edge.Fewest.TheVariants as fewest
-use Rattle.mh_seen.specs.Fewest.{IsFewest}
-use Rattle.mh_seen.specs.Live.{IsLive}
-use Rattle.mh_seen.specs.Rows.{IsOutcome}
-use Rattle.mh_size_text.specs.declared.sizes.Heaps.{Heaps}
-use Rattle.mh_size_text.specs.declared.sizes.Heaps.TheVariants.{Found, Nowhere}
-use Rattle.mh_size_text.specs.declared.sizes.Rows.{Rows}
-use Rattle.mh_size_text.specs.declared.sizes.Sizes.{Sizes}
+use Rattle.std.specs.{Prelude.{ℕ, ◌*◌, min, List}, Int.div_ceil}
+use Rattle.mh_model.specs.declared.{command.Event.Event, config.Config.Config}
+use Rattle.mh_size_runs.specs.{Fewest.IsFewest, Live.IsLive, Rows.IsOutcome, declared.edge.Fewest.Fewest}
+use Rattle.mh_size_text.specs.declared.sizes.{Heaps.Heaps, Heaps.TheVariants.{Found, Nowhere}, Rows.Rows, Sizes.Sizes}
 use Rattle.mh_size_text.specs.declared.sizes.Times.{Times}
 use Rattle.mh_size_text.specs.declared.sizes.Times.TheVariants.{One, OneAndAQuarter, OneAndAHalf, Two, Three}
 
@@ -36,8 +28,8 @@ pub record AreRows (config : Config) (events : List Event) (window pages : ℕ) 
 
 -- the fewest pages that the search found, with the rows; or the most don't suffice
 abbrev pub AreHeaps : Config → List Event → ℕ → Heaps → Type 0
-AreHeaps config events window (Found edge rows) = IsFewest config events (fewest.Found edge) × AreRows config events window edge.pages rows
-AreHeaps config events window (Nowhere event) = IsFewest config events (fewest.Nowhere event)
+AreHeaps config events window (Found edge rows) = IsFewest config events (Fewest.Found edge) × AreRows config events window edge.pages rows
+AreHeaps config events window (Nowhere event) = IsFewest config events (Fewest.Nowhere event)
 
 -- What is live in a run of these events, and its heaps, with what is seen in windows of this length
 pub record AreSizes (config : Config) (events : List Event) (window : ℕ) (sizes : Sizes) : Type 0 where

@@ -1,24 +1,15 @@
 -- The lines of a script's sizes.
 use Rattle.std.specs.Prelude.{ℕ, ◌+◌, ◌-◌, ◌*◌, ◌/◌, max, nat_lt, Bool, true, false, Option, None, Some, length, map, List, [], ◌∷◌, ◌++◌, codes, decimal}
-use Rattle.mh_model.specs.Bytes.{Text, joined, lines_text}
-use Rattle.mh_model.specs.Replies.{optional_word}
-use Rattle.mh_model.specs.declared.command.Event.{Event}
-use Rattle.mh_model.specs.declared.command.Event.TheVariants as event
-use Rattle.mh_model.specs.declared.config.Config.{Config}
-use Rattle.mh_model.specs.declared.report.Report.{Report}
+use Rattle.mh_model.specs.{Bytes.{Text, joined, lines_text}, Replies.optional_word, declared.command.Event.Event}
+use Rattle.mh_model.specs.{declared.config.Config.Config, declared.report.Report.Report}
 use Rattle.mh_report.specs.Windows.{percent_text, share_of}
-use Rattle.mh_seen.specs.declared.edge.Edge.{Edge}
-use Rattle.mh_seen.specs.declared.live.Live.{Live}
-use Rattle.mh_seen.specs.declared.rows.Outcome.{Outcome}
-use Rattle.mh_seen.specs.declared.rows.Outcome.TheVariants.{Fits, Full}
-use Rattle.mh_seen.specs.declared.seen.HasRoom.{HasRoom}
-use Rattle.mh_seen.specs.declared.seen.HasRoom.TheVariants.{Yes, No, NoCycle}
-use Rattle.mh_seen.specs.declared.seen.Seen.{Seen}
-use Rattle.mh_seen.specs.Seen.{greatest}
-use Rattle.mh_size_text.specs.declared.sizes.Heaps.{Heaps}
-use Rattle.mh_size_text.specs.declared.sizes.Heaps.TheVariants.{Found, Nowhere}
-use Rattle.mh_size_text.specs.declared.sizes.Rows.{Rows}
-use Rattle.mh_size_text.specs.declared.sizes.Sizes.{Sizes}
+use Rattle.mh_size_runs.specs.{declared.edge.Edge.Edge, declared.live.Live.Live}
+use Rattle.mh_size_runs.specs.declared.rows.PagesOutcome.{PagesOutcome}
+use Rattle.mh_size_runs.specs.{declared.rows.PagesOutcome.TheVariants.{Fits, Full}, declared.seen.HasRoom.HasRoom}
+use Rattle.mh_size_runs.specs.{declared.seen.HasRoom.TheVariants.{Yes, No, NoCycle}, declared.seen.Seen.Seen}
+use Rattle.mh_size_runs.specs.Seen.{greatest}
+use Rattle.mh_size_text.specs.{declared.sizes.Heaps.Heaps, declared.sizes.Heaps.TheVariants.{Found, Nowhere}}
+use Rattle.mh_size_text.specs.{declared.sizes.Rows.Rows, declared.sizes.Sizes.Sizes}
 use Rattle.mh_size_text.specs.declared.sizes.Times.TheVariants.{One, OneAndAQuarter, OneAndAHalf, Two, Three}
 use Rattle.mh_size_text.specs.Sizes.{pages_in}
 
@@ -26,8 +17,8 @@ use Rattle.mh_size_text.specs.Sizes.{pages_in}
 
 -- the number of the session of an event, counted from 1; 0 for a control
 abbrev pub session_of : Event → ℕ
-session_of (event.Session who command) = who + 1
-session_of (event.Control control) = 0
+session_of (Event.Session who command) = who + 1
+session_of (Event.Control control) = 0
 
 -- how many sessions these events have, which are numbered as they come
 unfoldable pub session_count : List Event → ℕ
@@ -41,7 +32,7 @@ script_line config events sessions live =
 -- What is live -----------------------------------------------------------------------------------
 
 -- fewer than 10 cycles ended in the fewest pages, if there are such
-abbrev pub is_short_in : Outcome → Option Bool
+abbrev pub is_short_in : PagesOutcome → Option Bool
 is_short_in (Fits trigger seen) = Some (nat_lt seen.cycles 10)
 is_short_in (Full number) = None
 
@@ -103,12 +94,12 @@ unfoldable pub shares_part : Report → Text
 shares_part report =
     joined (codes "collector" ∷ percent_text (ratio_of report.collector report.mutator) ∷ codes "window" ∷ decimal report.window ∷ codes "least" ∷ share_word report.least report.window ∷ codes "floor" ∷ share_word report.floor report.window ∷ [])
 
-abbrev pub outcome_words : Outcome → List Text
+abbrev pub outcome_words : PagesOutcome → List Text
 outcome_words (Fits trigger seen) = cycles_part trigger seen ∷ room_part seen ∷ shares_part seen.report ∷ []
 outcome_words (Full number) = codes "full" ∷ decimal number ∷ []
 
 -- the line of a run in so many pages
-abbrev pub row_line : ℕ → Outcome → Text
+abbrev pub row_line : ℕ → PagesOutcome → Text
 row_line pages outcome = joined (codes "pages" ∷ decimal pages ∷ outcome_words outcome)
 
 abbrev pub rows_text : ℕ → Rows → Text

@@ -1,19 +1,18 @@
 //! The lines of a script's sizes.
-ghost use Rattle.std.specs.Prelude.{◌≡◌, ◌≤◌, ◌++◌, ◌∷◌, [], OnOk, Some};
-ghost use Rattle.std.specs.String.{string_bytes};
+ghost use Rattle.std.specs.{Prelude.{◌≡◌, ◌≤◌, ◌++◌, ◌∷◌, [], OnOk, Some}, String.string_bytes};
 ghost use Rattle.mh_model.specs.Bytes.{lines_text};
-ghost use Rattle.mh_seen.specs.declared.rows.Outcome.TheVariants as Outcome;
 ghost use Rattle.mh_size_text.specs.Texts.{edge_line, heaps_text, is_short, is_short_in, live_line, nowhere_line, row_line, rows_text, script_line, session_count};
+ghost use Rattle.mh_size_runs.specs.declared.rows.PagesOutcome.TheVariants as PagesOutcome;
 
 use crate::sizes::{Heaps, Rows, Times, pages_in};
 use crate::text::{AnswerText, CyclesText, RoomText, SharesText};
 use mh_model::command::Event;
 use mh_model::config::Config;
 use mh_model::memory::NoMemory;
-use mh_seen::edge::Edge;
-use mh_seen::live::Live;
-use mh_seen::rows::Outcome;
-use mh_seen::seen::Seen;
+use mh_size_runs::edge::Edge;
+use mh_size_runs::live::Live;
+use mh_size_runs::rows::PagesOutcome;
+use mh_size_runs::seen::Seen;
 use std::fmt::Write;
 
 /// With fewer cycles in the fewest pages a script is short.
@@ -59,8 +58,8 @@ pub(crate) fn is_short(heaps: &Heaps) -> Option<bool>
 {
     match heaps {
         Heaps::Found(_, rows) => match rows.one {
-            Outcome::Fits { seen, .. } => Some(seen.cycles < FEW_CYCLES),
-            Outcome::Full(_) => None,
+            PagesOutcome::Fits { seen, .. } => Some(seen.cycles < FEW_CYCLES),
+            PagesOutcome::Full(_) => None,
         },
         Heaps::Nowhere(_) => None,
     }
@@ -117,7 +116,7 @@ fn push_edge(text: &mut String, edge: &Edge) -> Result<(), NoMemory>
 
 /// Adds what is seen of a run in so many pages with a trigger.
 fn push_seen(text: &mut String, pages: u32, trigger: u32, seen: &Seen) -> Result<(), NoMemory>
-    ensures { OnOk result (string_bytes text.new ≡ string_bytes text.old ++ lines_text (row_line pages (Outcome.Fits trigger seen.now) ∷ [])) }
+    ensures { OnOk result (string_bytes text.new ≡ string_bytes text.old ++ lines_text (row_line pages (PagesOutcome.Fits trigger seen.now) ∷ [])) }
 {
     let cycles = CyclesText {
         trigger,
@@ -130,12 +129,12 @@ fn push_seen(text: &mut String, pages: u32, trigger: u32, seen: &Seen) -> Result
 }
 
 /// Adds the line of a run in so many pages.
-fn push_row(text: &mut String, pages: u32, outcome: &Outcome) -> Result<(), NoMemory>
+fn push_row(text: &mut String, pages: u32, outcome: &PagesOutcome) -> Result<(), NoMemory>
     ensures { OnOk result (string_bytes text.new ≡ string_bytes text.old ++ lines_text (row_line pages outcome.now ∷ [])) }
 {
     match outcome {
-        Outcome::Fits { trigger, seen } => push_seen(text, pages, *trigger, seen),
-        Outcome::Full(event) => {
+        PagesOutcome::Fits { trigger, seen } => push_seen(text, pages, *trigger, seen),
+        PagesOutcome::Full(event) => {
             writeln!(text, "pages {pages} full {event}")?;
             Ok(())
         }

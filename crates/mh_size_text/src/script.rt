@@ -3,15 +3,10 @@
 //! A script is refused as by a run, with its reason. One of more than 1,000,000 events ends as a full history, after
 //! the sizes of the first 1,000,000 were written. Nothing is written if memory is refused or the source fails, and a
 //! prefix if the sink fails. A device failed exactly when it is blamed.
-ghost use Rattle.std.specs.Prelude.{◌≡◌, ◌<◌, ◌≤◌, ◌^◌, Bool, length, take, IfOk, OnOk, IsErrOf};
-ghost use Rattle.std.specs.Io.KnownBytes.{Keeps};
-ghost use Rattle.std.specs.String.{string_bytes};
-ghost use Rattle.mh_model.specs.Limits.{most_entries};
-ghost use Rattle.mh_model.specs.Output as model;
-ghost use Rattle.mh_model.specs.Script.{Means};
-ghost use Rattle.mh_script.specs.Run.{TakesToRun};
-ghost use Rattle.mh_script.specs.Texts.{Blames, LeavesSource, WantsMemory, Writes};
-ghost use Rattle.mh_size_text.specs.Scripts.{BeginsToSize, HasItsReason, IsSizeText, IsTextOfRun, SizesTo, Sizing, WritesPart, ended_with, window_of};
+ghost use Rattle.std.specs.{Prelude.{◌≡◌, ◌≤◌, length, take, IfOk}, String.string_bytes};
+ghost use Rattle.mh_model.specs.{Bytes.Text, Limits.most_entries, Script.{Means, reading}};
+ghost use Rattle.mh_script.specs.Tasks.{IsPerformed};
+ghost use Rattle.mh_size_text.specs.Scripts.{IsSizeText, IsSized, IsSizing, IsTextOfRun, ended_with, window_of};
 
 use crate::end::SizeEnd;
 use crate::lines::{is_short, push_heaps, push_live, push_script, session_count};
@@ -24,12 +19,13 @@ use mh_model::limits::MOST_ENTRIES;
 use mh_model::memory::NoMemory;
 use mh_orders::order::SizeOptions;
 use mh_script::end::LineRefusal;
-use mh_script::fault::{ScriptFault, WriteError};
-use mh_script::texts::{flush, read_whole, write_verdict};
+use mh_script::fault::ScriptFault;
+use mh_script::texts::write_verdict;
 use mh_text::device::DeviceFailed;
 use mh_text::script::{SCRIPT_BYTES, Script, parse};
 use mh_text::sink::Sink;
 use mh_text::source::Source;
+use mh_text::stream::{read_text, write_text};
 use mh_text::text_error::TextError;
 use std::alloc::Global;
 
@@ -103,27 +99,6 @@ fn script_text<P: Progress>(
     run_text(alloc, &run, progress)
 }
 
-/// Sizes a script, and then writes that. Answers whether some pages suffice.
-fn write_size<P: Progress, W: Sink>(
-    alloc: Global,
-    script: &Script,
-    options: &SizeOptions,
-    progress: &mut P,
-    sink: &mut W,
-) -> Result<bool, WriteError>
-    requires { W.failures sink.old < 2 ^ 62 }
-    ensures done { IfOk result (λ found. Writes (IsSizeText options.now found (Means script.now)) (W.written sink.old) (W.written sink.new)) }
-    ensures begun { IsErrOf result WriteError.Device → (found : Bool) × WritesPart (IsSizeText options.now found (Means script.now)) (W.written sink.old) (W.written sink.new) }
-    ensures unwritten { IsErrOf result WriteError.NoMemory → Keeps (W.written sink.old) (W.written sink.new) }
-    ensures no_failure { OnOk result (W.failures sink.new ≡ W.failures sink.old) }
-    ensures blamed { IsErrOf result WriteError.Device → W.failures sink.old < W.failures sink.new }
-    ensures not_blamed { IsErrOf result WriteError.NoMemory → W.failures sink.new ≡ W.failures sink.old }
-{
-    let RunText { mut text, is_found } = script_text(alloc, script, options, progress)?;
-    flush(sink, &mut text)?;
-    Ok(is_found)
-}
-
 /// How a sizing ended that was written.
 fn ended(is_found: bool) -> SizeEnd
     ensures { result ≡ ended_with is_found }
@@ -132,6 +107,44 @@ fn ended(is_found: bool) -> SizeEnd
         SizeEnd::Sized
     } else {
         SizeEnd::NoSize
+    }
+}
+
+/// Sizes a script, and then writes that.
+fn write_size<P: Progress, W: Sink>(
+    alloc: Global,
+    script: &Script,
+    options: &SizeOptions,
+    progress: &mut P,
+    sink: &mut W,
+) -> Result<SizeEnd, ScriptFault>
+    ensures { (text : Text) → reading text ≡ Means script.now → IsPerformed (IsSized options.now) (W.device sink.old) (W.device sink.new) result text }
+{
+    let RunText { text, is_found } = script_text(alloc, script, options, progress)?;
+    match write_text(sink, text.as_bytes()) {
+        Ok(()) if script.events().len() > MOST_ANSWERED => Err(ScriptFault::HistoryFull),
+        Ok(()) => Ok(ended(is_found)),
+        Err(DeviceFailed) => Err(ScriptFault::Write),
+    }
+}
+
+/// Writes the sizes of a text, or the one line that names its first bad line.
+fn write_sizes<P: Progress, W: Sink>(
+    alloc: Global,
+    text: &[u8],
+    options: &SizeOptions,
+    progress: &mut P,
+    sink: &mut W,
+) -> Result<SizeEnd, ScriptFault>
+    ensures { IsPerformed (IsSized options.now) (W.device sink.old) (W.device sink.new) result text.now }
+{
+    match parse(alloc, text) {
+        Ok(script) => write_size(alloc, &script, options, progress, sink),
+        Err(TextError::Line(line)) => match write_verdict(Verdict::Refused(line), sink) {
+            Ok(()) => Ok(SizeEnd::Refused(LineRefusal::of(text, line))),
+            Err(DeviceFailed) => Err(ScriptFault::Write),
+        },
+        Err(TextError::NoMemory) => Err(ScriptFault::NoMemory),
     }
 }
 
@@ -145,31 +158,8 @@ pub fn size_script<S: Source, W: Sink, P: Progress>(
     options: &SizeOptions,
     progress: &mut P,
 ) -> Result<SizeEnd, ScriptFault>
-    requires source_count { S.failures source.old < 2 ^ 62 }
-    requires sink_count { W.failures sink.old < 2 ^ 62 }
-    ensures ends { IfOk result (SizesTo options.now (S.rest source.old) (W.written sink.old) (W.written sink.new)) }
-    ensures reason { IfOk result (HasItsReason (S.rest source.old)) }
-    ensures begun { IsErrOf result ScriptFault.Write → BeginsToSize options.now (S.rest source.old) (W.written sink.old) (W.written sink.new) }
-    ensures full { IsErrOf result ScriptFault.HistoryFull → (found : Bool) × Sizing options.now found (S.rest source.old) (W.written sink.old) (W.written sink.new) model.HistoryFull }
-    ensures unread { IsErrOf result ScriptFault.Read → Keeps (W.written sink.old) (W.written sink.new) }
-    ensures unwritten { IsErrOf result ScriptFault.NoMemory → Keeps (W.written sink.old) (W.written sink.new) }
-    ensures memory { IsErrOf result ScriptFault.NoMemory → WantsMemory TakesToRun (S.rest source.old) (S.rest source.new) }
-    ensures taken { LeavesSource SCRIPT_BYTES (S.rest source.old) (S.rest source.new) result }
-    ensures blames { Blames (S.failures source.old) (S.failures source.new) (W.failures sink.old) (W.failures sink.new) result }
+    ensures { IsSizing options.now (S.device source.old) (S.device source.new) (W.device sink.old) (W.device sink.new) result }
 {
-    let text = read_whole(alloc, source, SCRIPT_BYTES)?;
-    let bytes = text.as_slice();
-    match parse(alloc, bytes) {
-        Ok(script) => match write_size(alloc, &script, options, progress, sink) {
-            Ok(_) if script.events().len() > MOST_ANSWERED => Err(ScriptFault::HistoryFull),
-            Ok(is_found) => Ok(ended(is_found)),
-            Err(WriteError::Device) => Err(ScriptFault::Write),
-            Err(WriteError::NoMemory) => Err(ScriptFault::NoMemory),
-        },
-        Err(TextError::Line(line)) => match write_verdict(Verdict::Refused(line), sink) {
-            Ok(()) => Ok(SizeEnd::Refused(LineRefusal::of(bytes, line))),
-            Err(DeviceFailed) => Err(ScriptFault::Write),
-        },
-        Err(TextError::NoMemory) => Err(ScriptFault::NoMemory),
-    }
+    let text = read_text(alloc, source, SCRIPT_BYTES)?;
+    write_sizes(alloc, text.as_slice(), options, progress, sink)
 }

@@ -2,7 +2,7 @@
 //! a half, two and three times as many.
 ghost use Rattle.std.specs.Prelude.{◌≡◌, ◌≤◌, length, IfOk};
 ghost use Rattle.mh_model.specs.Limits.{most_entries};
-ghost use Rattle.mh_seen.specs.Rows.{IsOutcome};
+ghost use Rattle.mh_size_runs.specs.Rows.{IsOutcome};
 ghost use Rattle.mh_size_text.specs.Sizes.{AreHeaps, AreRows, AreSizes, pages_in, quarters_of};
 
 use crate::progress::{Progress, Step};
@@ -10,11 +10,11 @@ use mh_model::command::Event;
 use mh_model::config::Config;
 use mh_model::limits::MOST_PAGES;
 use mh_model::memory::NoMemory;
-use mh_seen::edge::{Edge, Fewest};
-use mh_seen::fewest::fewest;
-use mh_seen::live::{Live, live_of};
-use mh_seen::mh_scan::scan::{OneScan, Scanner};
-use mh_seen::rows::{Outcome, outcome_of};
+use mh_scan::scan::{OneScan, Scanner};
+use mh_size_runs::edge::{Edge, Fewest};
+use mh_size_runs::fewest::fewest;
+use mh_size_runs::live::{Live, live_of};
+use mh_size_runs::rows::{PagesOutcome, outcome_of};
 use std::alloc::Global;
 
 /// How many times the fewest pages a row has, in quarters.
@@ -55,11 +55,11 @@ pub(crate) fn pages_in(fewest: u32, times: Times) -> u32
 /// The runs in so many times the fewest pages.
 #[derive(Clone, Copy, Debug, PartialEq, Eq)]
 pub struct Rows {
-    pub one: Outcome,
-    pub one_and_a_quarter: Outcome,
-    pub one_and_a_half: Outcome,
-    pub two: Outcome,
-    pub three: Outcome,
+    pub one: PagesOutcome,
+    pub one_and_a_quarter: PagesOutcome,
+    pub one_and_a_half: PagesOutcome,
+    pub two: PagesOutcome,
+    pub three: PagesOutcome,
 }
 
 /// What the search found, with the rows.
@@ -91,7 +91,7 @@ fn row<S: Scanner, P: Progress>(
     pages: u32,
     scanner: &mut S,
     progress: &mut P,
-) -> Result<Outcome, NoMemory>
+) -> Result<PagesOutcome, NoMemory>
     requires few { length run.now.events.now ≤ most_entries }
     requires pages { (1 ≤ pages) × (pages ≤ 4096) }
     ensures { IfOk result (IsOutcome run.now.config run.now.events.now pages run.now.window) }

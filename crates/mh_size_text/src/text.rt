@@ -1,28 +1,13 @@
 //! Words of lines.
 ghost use Rattle.std.specs.Prelude.{◌≡◌, Some};
-ghost use Rattle.mh_model.specs.Replies.{optional_word};
 ghost use Rattle.mh_report.specs.Windows.{percent_text};
 ghost use Rattle.mh_size_text.specs.Texts.{answer_word, cycles_part, ratio_of, room_part, room_word, share_word, shares_part};
 
 use mh_model::report::Report;
 use mh_report::windows::{PercentText, share};
-use mh_seen::seen::{HasRoom, Seen};
+use mh_size_runs::seen::{HasRoom, Seen};
+use mh_text::reply_text::OptionalText;
 use std::fmt;
-
-/// A number, or `none`.
-#[derive(Clone, Copy)]
-struct OptionalText(Option<u64>);
-
-impl fmt::Display for OptionalText {
-    ghost output = { λ text. Some (optional_word text.0) };
-
-    fn fmt<W: fmt::Write>(&self, f: &mut fmt::Formatter<W>) -> fmt::Result {
-        match self.0 {
-            None => write!(f, "none"),
-            Some(number) => write!(f, "{number}"),
-        }
-    }
-}
 
 /// Units of a window in per cent of it, or `none`.
 #[derive(Clone, Copy)]

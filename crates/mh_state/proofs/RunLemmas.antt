@@ -2,14 +2,10 @@
 use Rattle.std.proofs.Common.{◌≡◌, ◌<◌, ◌≤◌, ℕ, ◌+◌, Vec, Global, List, [], ◌∷◌, ◌++◌, length, take, drop, get_or, sym, ap, ◌∙◌, subst, arith}
 use Rattle.std.proofs.lemmas.List.{length-append, take_more, take_all, take-append-drop}
 use Rattle.std.specs.Vec.{vec_len}
-use Rattle.mh_model.specs.declared.command.Event.{Event}
-use Rattle.mh_model.specs.declared.config.Config.{Config}
-use Rattle.mh_model.specs.declared.reply.Reply.{Reply}
+use Rattle.mh_model.specs.{declared.command.Event.Event, declared.config.Config.Config, declared.reply.Reply.Reply}
 use Rattle.mh_model.specs.Limits.{most_entries}
-use Rattle.mh_promise.specs.Runs.{AreAnsweredSoFar}
-use Rattle.mh_promise.specs.Replays.{EventsKeepTheReplay, IsReplay}
-use Rattle.mh_machine.specs.Running.{Running, first_running}
-use Rattle.mh_machine.specs.declared.machine.Stop.{Stop}
+use Rattle.mh_promise.specs.{Runs.AreAnsweredSoFar, Replays.{EventsKeepTheReplay, IsReplay}}
+use Rattle.mh_machine.specs.{Running.{Running, first_running}, declared.machine.Stop.Stop}
 use Rattle.mh_machine.specs.declared.machine.Stop.TheVariants.{HistoryFull}
 use Rattle.mh_state.specs.Whole.{GoesOn, HasDone, IsStopped}
 

@@ -1,14 +1,10 @@
 -- Histories with an entry more.
 use Rattle.std.proofs.Common.{◌≡◌, ◌≢◌, ◌≤◌, ℕ, List, [], ◌∷◌, ◌++◌, length, sym, ap, ◌∙◌, subst, arith}
 use Rattle.std.proofs.lemmas.List.{length-append, map-append}
-use Rattle.mh_model.specs.History.{events_of, replies_of}
-use Rattle.mh_model.specs.declared.command.Event.{Event}
-use Rattle.mh_model.specs.declared.config.Config.{Config}
-use Rattle.mh_model.specs.declared.history.Entry.{Entry}
-use Rattle.mh_model.specs.declared.reply.Reply.{Reply}
-use Rattle.mh_model.specs.Limits.{most_entries}
+use Rattle.mh_model.specs.{History.{events_of, replies_of}, declared.command.Event.Event, declared.config.Config.Config}
+use Rattle.mh_model.specs.{declared.history.Entry.Entry, declared.reply.Reply.Reply, Limits.most_entries}
 use Rattle.mh_model.specs.Machine.{Machine, first_machine}
-use Rattle.mh_promise.proofs.OfLaws.CyclesInTime.{run-stays}
+use Rattle.mh_laws.proofs.bounds.CyclesInTime.{run-stays}
 use Rattle.mh_promise.specs.Replays.{EventsKeepTheReplay, IsReplay}
 use Rattle.mh_machine.specs.Running.{Running, Does}
 use Rattle.mh_state.specs.Storing.{IsStored, with_entry, IsTheReplay, KeepsItsPromise}

@@ -1,14 +1,9 @@
 -- The machine that is stored with the history of what it did.
 use Rattle.std.specs.Prelude.{◌≡◌, ◌⊎◌, ℕ, List, [], ◌∷◌, ◌++◌, length}
-use Rattle.mh_model.specs.declared.command.Event.{Event}
-use Rattle.mh_model.specs.declared.config.Config.{Config}
-use Rattle.mh_model.specs.declared.history.Entry.{Entry}
-use Rattle.mh_model.specs.declared.reply.Reply.{Reply}
-use Rattle.mh_model.specs.History.{IsLegal, events_of, replies_of}
+use Rattle.mh_model.specs.{declared.command.Event.Event, declared.config.Config.Config, declared.history.Entry.Entry}
+use Rattle.mh_model.specs.{declared.reply.Reply.Reply, History.{IsLegal, events_of, replies_of}}
 use Rattle.mh_model.specs.Machine.{Machine, first_machine}
-use Rattle.mh_promise.specs.Replays.{IsReplay}
-use Rattle.mh_promise.specs.Runs.{outcome_of, IsTheMachines}
-use Rattle.mh_promise.specs.Promise.{IsPromised}
+use Rattle.mh_promise.specs.{Replays.IsReplay, Runs.{outcome_of, IsTheMachines}, Promise.IsPromised}
 use Rattle.mh_machine.specs.Running.{Running, MayAskForMemory}
 
 -- The machine, and each event that it did with its reply, in order; how many segments the trace and how many entries the history have room for without asking for memory

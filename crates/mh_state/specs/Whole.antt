@@ -1,15 +1,12 @@
 -- Whole runs: what one shows, and how it goes on event by event.
 use Rattle.std.specs.Prelude.{◌≡◌, ◌<◌, ◌≤◌, ℕ, List, [], ◌∷◌, ◌++◌, length, take}
-use Rattle.mh_model.specs.declared.command.Event.{Event}
-use Rattle.mh_model.specs.declared.config.Config.{Config}
-use Rattle.mh_model.specs.declared.reply.Reply.{Reply}
+use Rattle.mh_model.specs.{declared.command.Event.Event, declared.config.Config.Config, declared.reply.Reply.Reply}
 use Rattle.mh_model.specs.Limits.{most_entries}
 use Rattle.mh_promise.specs.Replays.{IsReplay}
-use Rattle.mh_promise.specs.Runs as promised
-use Rattle.mh_machine.specs.declared.machine.Stop.{Stop}
-use Rattle.mh_machine.specs.declared.machine.Stop.TheVariants.{HistoryFull}
-use Rattle.mh_state.specs.declared.run.Outcome.{Outcome}
+use Rattle.mh_machine.specs.{declared.machine.Stop.Stop, declared.machine.Stop.TheVariants.HistoryFull}
 use Rattle.mh_machine.specs.Running.{Running, Does}
+use Rattle.mh_state.specs.declared.run.Outcome.{Outcome}
+use Rattle.mh_promise.specs.Runs as promised
 
 -- what a run gives back, as what is promised of it
 abbrev pub shown_outcome : Outcome → promised.Outcome

@@ -6,10 +6,10 @@
 //! is dropped. Each of the three has a handle to the items (`Arc`). The handles are made before the event too, since a
 //! count of handles can be full. Every other reply is copied without memory.
 ghost use Rattle.std.specs.Prelude.{◌≡◌, IfOk, OnErr};
-ghost use Rattle.mh_model.specs.declared.command.Control.TheVariants as controls;
-ghost use Rattle.mh_model.specs.declared.command.Event.TheVariants as events;
 ghost use Rattle.mh_model.specs.Machine.{event_step};
 ghost use Rattle.mh_state.specs.Copies.{IsNoDump, IsDumpOf};
+ghost use Rattle.mh_model.specs.declared.command.Control.TheVariants as controls;
+ghost use Rattle.mh_model.specs.declared.command.Event.TheVariants as events;
 
 use mh_machine::machine::Machine;
 use mh_model::command::{Control, Event};

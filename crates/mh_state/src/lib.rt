@@ -6,9 +6,7 @@
 //! promise is one record of eleven clauses, so `run`, `State::apply` and a run that stopped early name the same words.
 #![tactic(auto)]
 
-pub use mh_machine;
-pub use mh_machine::{judge, machine, mh_paged, mh_report, mh_scan};
-pub use mh_promise;
+pub use mh_machine::{judge, machine};
 
 pub mod copies;
 pub mod run;

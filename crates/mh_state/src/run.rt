@@ -12,23 +12,22 @@
 //! hook that the threads of a crew can call. For one thread `Gate` alone would do.
 ghost use Rattle.std.specs.Prelude.{◌≡◌, ◌<◌, ◌≤◌, IfOk, OnOk, IfErr, OnErr, IsErrOf, length, vec_len};
 ghost use Rattle.mh_model.specs.Limits.{most_entries};
-ghost use Rattle.mh_promise.specs.Runs.{IsTheMachines, AreAnsweredSoFar};
-ghost use Rattle.mh_promise.specs.Replays.{IsReplay};
+ghost use Rattle.mh_promise.specs.{Runs.{IsTheMachines, AreAnsweredSoFar}, Replays.IsReplay};
 ghost use Rattle.mh_promise.specs.Promise.{IsPromised, IsPromisedSoFar};
 ghost use Rattle.mh_state.specs.Whole.{shown_outcome, GoesOn, HasDone, IsStopped};
 ghost use Rattle.mh_machine.specs.declared.machine.Stop.{Stop};
 
 use mh_machine::machine::{Machine, Stop};
-use mh_machine::mh_paged::mh_scan::crew_scan::{CrewGate, CrewScan};
-use mh_machine::mh_paged::mh_scan::scan::Scanner;
-use mh_machine::mh_paged::paged::PagedHeap;
-use mh_machine::mh_report::trace::Trace;
 use mh_model::command::Event;
 use mh_model::config::Config;
 use mh_model::memory::NoMemory;
 use mh_model::reply::Reply;
+use mh_paged::paged::PagedHeap;
 use mh_promise::promise::{runs_keep_their_promise, stopped_runs_keep_their_promise};
 use mh_promise::replays::events_keep_the_replay;
+use mh_report::trace::Trace;
+use mh_scan::crew_scan::{CrewGate, CrewScan};
+use mh_scan::scan::Scanner;
 use std::alloc::Global;
 use std::thread::Threads;
 use thiserror::Error;

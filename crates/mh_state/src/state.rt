@@ -9,30 +9,26 @@
 //!
 //! All growths come before the event: room in the trace, the entry's place in the history, and the handles of a dump.
 //! If memory for the event is then refused, the room that was made stays, since room is no part of either.
-ghost use Rattle.std.specs.Prelude.{◌≡◌, ◌<◌, ◌⊎◌, IfOk, OnOk, OnErr, IsErrOf, length, vec_len};
-ghost use Rattle.std.specs.Vec.{vec_capacity};
-ghost use Rattle.mh_model.specs.declared.command.Control.TheVariants as controls;
-ghost use Rattle.mh_model.specs.declared.command.Event.TheVariants as events;
-ghost use Rattle.mh_model.specs.History.{IsLegal};
-ghost use Rattle.mh_model.specs.Limits.{most_entries};
-ghost use Rattle.mh_model.specs.World.{says};
-ghost use Rattle.mh_model.specs.Machine.{event_step};
+ghost use Rattle.std.specs.{Prelude.{◌≡◌, ◌<◌, ◌⊎◌, IfOk, OnOk, OnErr, IsErrOf, length, vec_len}, Vec.vec_capacity};
+ghost use Rattle.mh_model.specs.{History.IsLegal, Limits.most_entries, World.says, Machine.event_step};
 ghost use Rattle.mh_state.specs.Copies.{IsDumpOf};
 ghost use Rattle.mh_state.specs.Storing.{first_stored, KeepsState, MayWantMemory, with_entry, IsTheReplay, KeepsItsPromise};
 ghost use Rattle.mh_machine.specs.declared.machine.Stop.{Stop};
+ghost use Rattle.mh_model.specs.declared.command.Control.TheVariants as controls;
+ghost use Rattle.mh_model.specs.declared.command.Event.TheVariants as events;
 
 use crate::copies::{Dumps, Twice, copies_of, dumps_for};
 use mh_machine::machine::{Machine, Stop};
-use mh_machine::mh_paged::mh_scan::scan::Scanner;
-use mh_machine::mh_paged::paged::PagedHeap;
-use mh_machine::mh_report::trace::Trace;
 use mh_model::command::Event;
 use mh_model::config::Config;
 use mh_model::history::Entry;
 use mh_model::limits::MOST_ENTRIES;
 use mh_model::memory::NoMemory;
 use mh_model::reply::Reply;
+use mh_paged::paged::PagedHeap;
 use mh_promise::replays::events_keep_the_replay;
+use mh_report::trace::Trace;
+use mh_scan::scan::Scanner;
 use std::alloc::Global;
 use std::marker::Model;
 
@@ -45,8 +41,7 @@ pub struct State {
 }
 
 impl Model for State {
-    ghost use Rattle.std.specs.Prelude.{◌-◌, vec_len};
-    ghost use Rattle.std.specs.Vec.{vec_capacity};
+    ghost use Rattle.std.specs.{Prelude.{◌-◌, vec_len}, Vec.vec_capacity};
     ghost use Rattle.mh_state.specs.Storing.{Stored, IsStored};
 
     ghost Value = { Stored };

@@ -1,8 +1,7 @@
 -- Several steps of the sweep in one page.
 use Rattle.std.proofs.Common.{None, Some, zero, suc, ◌≤◌, ◌≡◌, ◌≢◌, ℕ, ◌+◌, ◌*◌, ◌/◌, ◌%◌, ◌<◌, ◌⊎◌, true, if◌then◌else◌, inl, inr, length, is_some, refl, sym, ap, ◌∙◌, subst, arith, add-one, below_more}
 use Rattle.std.proofs.lemmas.Bool.{cases_lt, lt-ltb, le-ltb}
-use Rattle.mh_model.specs.Classes.{slots_in}
-use Rattle.mh_model.specs.Pages.{Table, page_number, slot_number, page_at, class_at, HaveTheirSlots}
+use Rattle.mh_model.specs.{Classes.slots_in, Pages.{Table, page_number, slot_number, page_at, class_at, HaveTheirSlots}}
 use Rattle.mh_model.specs.Table.{Block}
 use Rattle.mh_sweep.specs.Swept.{slot_swept, slots_swept, stretch_end, judged, AreFree, Sweeping, swept_once, swept_on, IsSweptTo}
 use Rattle.mh_sweep.proofs.SweepLemmas.{slot_count_in, used-classed, slots-classed, step-free, step-slot, step-last, swept-class, swept-slots, swept-long}

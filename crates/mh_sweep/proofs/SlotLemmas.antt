@@ -1,17 +1,16 @@
 -- Slots swept by words.
 use Rattle.std.proofs.Common.{◌≡◌, ◌≢◌, ℕ, zero, suc, ◌+◌, ◌-◌, ◌*◌, ◌/◌, ◌%◌, ◌^◌, ◌<◌, ◌≤◌, ◌==◌, ◌&&◌, ◌⊎◌, nat_le, nat_lt, Bool, true, false, inl, inr, Option, Some, None, option_and_then, IsSome, min, refl, sym, ap, ◌∙◌, arith}
-use Rattle.std.specs.Int.{bit_at, bit_not, w64, trailing_zeros}
-use lib.Bits.{bit_and}
-use mir.Val.{bits}
 use Rattle.std.proofs.lemmas.Bool.{cases_eq, cases_lt, false≢true, true≢false, le-leb, lt-leb, lt-ltb, le-ltb}
 use Rattle.std.proofs.lemmas.Nat.{and_le_l}
 use Rattle.std.proofs.lemmas.Nat.Bits.{bit_at_and, bit_at-lt, ones_shl, ones_shr, bit_at_ones, bit_at_ones_above, bit_at_mask_inside, bit_at_mask_below}
-use Rattle.mh_model.specs.Pages.{Table, page_number, slot_number, block_at, with_block}
-use Rattle.mh_model.specs.Table.{Block}
+use Rattle.std.specs.Int.{bit_at, bit_not, w64, trailing_zeros}
+use lib.Bits.{bit_and}
+use mir.Val.{bits}
+use Rattle.mh_model.specs.{Pages.{Table, page_number, slot_number, block_at, with_block}, Table.Block}
 use Rattle.mh_model.specs.Collector.{survivor}
 use Rattle.mh_table_laws.proofs.placing.Places.{block_at-with_block_other, with_block-self}
-use Rattle.mh_blocks.specs.OfBits.Bits.{has_bit}
-use Rattle.mh_blocks.proofs.OfBits.BitLemmas.{IsLowest, lowest_bit, has_bit-zero, has_bit-clear_same, has_bit-clear_other}
+use Rattle.mh_bits.specs.Bits.{has_bit}
+use Rattle.mh_bits.proofs.BitLemmas.{IsLowest, lowest_bit, has_bit-zero, has_bit-clear_same, has_bit-clear_other}
 use Rattle.mh_blocks.specs.Marks.{is_dead}
 use Rattle.mh_sweep.specs.Swept.{slot_swept, slots_swept, is_slot_between}
 

@@ -1,7 +1,7 @@
 //! Slots of a page swept by words: a word has a bit for each slot.
 ghost use Rattle.std.specs.Prelude.{ℕ, ◌≡◌, ◌+◌, ◌*◌, ◌<◌, ◌≤◌, ◌&&◌, length};
 ghost use Rattle.mh_model.specs.Pages.{page_number, slot_number, block_at};
-ghost use Rattle.mh_blocks.specs.OfBits.Bits.{has_bit};
+ghost use Rattle.mh_bits.specs.Bits.{has_bit};
 ghost use Rattle.mh_blocks.specs.Marks.{is_dead};
 ghost use Rattle.mh_sweep.specs.Swept.{slots_swept, is_slot_between};
 

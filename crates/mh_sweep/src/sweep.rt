@@ -4,14 +4,13 @@
 //! They are functions over the table and no type of their own, since all that they go on from is the collector's
 //! cursor. A quantum takes several at a time, and one that tells its deeds takes each by itself.
 ghost use Rattle.std.specs.Prelude.{◌≡◌, ◌+◌, ◌<◌, ◌≤◌, Some, length};
-ghost use Rattle.mh_model.specs.Classes.{slots_in};
-ghost use Rattle.mh_model.specs.Pages.{page_number, page_at, class_at};
+ghost use Rattle.mh_model.specs.{Classes.slots_in, Pages.{page_number, page_at, class_at}};
 ghost use Rattle.mh_model.specs.Collector.{swept_table, next_place};
 ghost use Rattle.mh_sweep.specs.Swept.{slot_swept, stretch_end, judged, AreFree, IsSweptTo};
 
 use crate::slots::sweep_slots;
 use mh_blocks::blocks::Blocks;
-use mh_blocks::mh_classes::class::Class;
+use mh_classes::class::Class;
 use mh_model::limits::PLACES;
 use mh_model::place::Place;
 /// How far a sweep came: the place of its next step, and the steps that it took.

@@ -1,8 +1,6 @@
 -- Mark steps one after another, and places that are settled.
-use Rattle.std.specs.Prelude.{◌≢◌, ℕ, zero, suc}
-use Rattle.std.specs.List.{AllByRecursion}
-use Rattle.mh_model.specs.Collector.{Marking, mark_step}
-use Rattle.mh_model.specs.CycleBounds.{IsMarkedIn}
+use Rattle.std.specs.{Prelude.{◌≢◌, ℕ, zero, suc}, List.AllByRecursion}
+use Rattle.mh_model.specs.{Collector.{Marking, mark_step}, CycleBounds.IsMarkedIn}
 
 -- a place with a marked block that isn't in the grey list
 pub record IsSettled (marking : Marking) (place : ℕ) : Type 0 where

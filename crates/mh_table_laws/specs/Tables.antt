@@ -3,8 +3,7 @@
 -- check proves a law as it proves any contract. The laws speak of the machine of the model alone. The contracts of a crate say that its code does
 -- what the model's functions compute, and so a law says something of the code.
 use Rattle.std.specs.Prelude.{◌≡◌, ℕ, ◌≤◌, Some, length}
-use Rattle.mh_model.specs.Pages.{Page, Table, page_at, HaveTheirSlots}
-use Rattle.mh_model.specs.Table.{Block, HasSmallBlocks, references_at}
+use Rattle.mh_model.specs.{Pages.{Page, Table, page_at, HaveTheirSlots}, Table.{Block, HasSmallBlocks, references_at}}
 
 -- a table that keeps its pages: it has as many; if each page in use had the slots of its class, each has; and if each block was within the limits of
 -- objects, each is. The fields that these limits allow are no fewer than those of an object made meanwhile

@@ -1,16 +1,12 @@
 -- Digits that a text begins with, and the number that the first word of a line is.
 use Rattle.std.proofs.Common.{◌≡◌, ◌⊎◌, ℕ, zero, suc, ◌+◌, ◌*◌, ◌-◌, ◌^◌, ◌<◌, ◌≤◌, ◌==◌, nat_lt, not, ◌&&◌, cond, Bool, true, false, Some, None, option_map, List, [], ◌∷◌, ◌++◌, length, get_or, take, drop, ap, sym, refl, subst, ◌∙◌, ⊎_elim, inl, inr, add-one, take-append-drop, drop-cons, arith}
-use Rattle.std.specs.List.{list_all, prefix_len, take_while}
 use Rattle.std.proofs.lemmas.List.{get_or-take, length-take-le, take-take, take_all, take_rest}
 use Rattle.std.proofs.lemmas.List.Sums.{passes_at_first, position_or_len_is, prefix_len-le-length, prefix_len_passes, prefix_len_stops}
-use Rattle.std.proofs.lemmas.Bool.Decides.{nat_tests}
-use Rattle.std.proofs.lemmas.Bool.{cases_lt}
-use Rattle.std.proofs.lemmas.Grind.{common_steps}
-use Rattle.std.proofs.Math.Nat.{eq-or-lt_of_le}
-use Rattle.std.proofs.Math.Bool.{and-false, and-true}
+use Rattle.std.proofs.{lemmas.Bool.Decides.nat_tests, lemmas.Bool.cases_lt, lemmas.Grind.common_steps}
+use Rattle.std.proofs.{Math.Nat.eq-or-lt_of_le, Math.Bool.{and-false, and-true}}
+use Rattle.std.specs.List.{list_all, prefix_len, take_while}
 use Rattle.mh_model.specs.Bytes.{Text, cut_after, words, is_digit, is_numeral, value_after, number, numbers}
-use Rattle.mh_text.specs.Pieces.{with_piece}
-use Rattle.mh_text.specs.Words.{BeginsWithNumber}
+use Rattle.mh_text.specs.{Pieces.with_piece, Words.BeginsWithNumber}
 use Rattle.mh_text.proofs.PieceLemmas.{before, cut_first, cut_none}
 use Rattle.mh_text.proofs.WordLemmas.{numbers_next as word_next, numeral_digits, numeral_zero, value_after_grows}
 

@@ -1,18 +1,15 @@
 -- Commands and controls by their first word and their numbers.
 use Rattle.std.proofs.Common.{◌≡◌, ℕ, ◌^◌, ◌<◌, nat_lt, Bool, true, false, Some, None, List, [], ◌∷◌, length, get_or, refl, ◌∙◌, arith}
-use Rattle.std.specs.Prelude.{codes}
 use Rattle.std.proofs.lemmas.Bool.Decides.{nat_tests}
-use Rattle.mh_model.specs.declared.command.Command.TheVariants as command
-use Rattle.mh_model.specs.declared.command.Control.TheVariants as control
-use Rattle.mh_model.specs.Bytes.{Text, is_text}
+use Rattle.std.specs.Prelude.{codes}
+use Rattle.mh_model.specs.{declared.command.Command.Command, declared.command.Control.Control, Bytes.{Text, is_text}}
 use Rattle.mh_model.specs.Forms.{within, u32, u64, command_rows, command_of, control_rows, control_of}
-use Rattle.mh_model.specs.declared.history.Version.{Version}
-use Rattle.mh_model.specs.declared.history.Version.TheVariants.{One, Two}
+use Rattle.mh_model.specs.{declared.history.Version.Version, declared.history.Version.TheVariants.{One, Two}}
 use Rattle.mh_text.specs.Words.{few_numbers}
 use Rattle.mh_text.specs.Rows.{said, rows_with_count, three_rows, two_rows, one_rows, no_rows, plain_rows}
 use Rattle.mh_text.proofs.WordLemmas.{few_same, none_of}
-use Rattle.mh_model.proofs.TextLemmas.{text_is}
 use Rattle.mh_text.proofs.RowLemmas.{are_distinct, are_short, formed_said, said_counted, said_long}
+use Rattle.mh_model.proofs.TextLemmas.{text_is}
 
 -- Numbers of 32 bits -----------------------------------------------------------------------------
 
@@ -35,7 +32,7 @@ pub no_said : (verb : Text) (ns : List ℕ) → length ns ≡ 0 → said command
 no_said verb [] none = said_counted command_rows verb [] refl
 no_said verb (n ∷ ns) none = absurd (omega arith)
 
-pub end_said : (verb : Text) (ns : List ℕ) → length ns ≡ 0 → is_text verb (codes "end") ≡ true → said command_rows verb ns ≡ Some command.End
+pub end_said : (verb : Text) (ns : List ℕ) → length ns ≡ 0 → is_text verb (codes "end") ≡ true → said command_rows verb ns ≡ Some Command.End
 end_said verb ns none is = no_said verb ns none ∙ rw is refl
 
 pub one_counted : (verb : Text) (a : ℕ) → said command_rows verb (a ∷ []) ≡ said one_rows verb (a ∷ [])
@@ -73,11 +70,11 @@ pub left_unknown : (version : Version) (verb : Text) → (version ≡ Two → �
 left_unknown One verb other is = rw (text_is verb (codes "left") is) refl
 left_unknown Two verb other is = absurd (other refl)
 
-report_by : (version : Version) (verb : Text) (n : ℕ) → nat_lt n u64 ≡ true → is_text verb (codes "report") ≡ true → said (rows_with_count 1 (control_rows version)) verb (n ∷ []) ≡ Some (control.Report n)
+report_by : (version : Version) (verb : Text) (n : ℕ) → nat_lt n u64 ≡ true → is_text verb (codes "report") ≡ true → said (rows_with_count 1 (control_rows version)) verb (n ∷ []) ≡ Some (Control.Report n)
 report_by One verb n below is = rw (is, below) refl
 report_by Two verb n below is = rw (is, below) refl
 
-pub report_said : (version : Version) (verb : Text) (ns : List ℕ) → length ns ≡ 1 → get_or ns 0 0 < 2 ^ 64 → is_text verb (codes "report") ≡ true → said (control_rows version) verb ns ≡ Some (control.Report (get_or ns 0 0))
+pub report_said : (version : Version) (verb : Text) (ns : List ℕ) → length ns ≡ 1 → get_or ns 0 0 < 2 ^ 64 → is_text verb (codes "report") ≡ true → said (control_rows version) verb ns ≡ Some (Control.Report (get_or ns 0 0))
 report_said version verb [] one small is = absurd (omega arith)
 report_said version verb (n ∷ []) one small is =
     let below : nat_lt n u64 ≡ true = grind (arith, nat_tests) in

@@ -1,9 +1,7 @@
 -- The words before and after a mark, found by the bytes between spaces.
 use Rattle.std.proofs.Common.{◌≡◌, ℕ, suc, ◌+◌, ◌-◌, ◌==◌, cond, Bool, true, false, Option, Some, None, option_map, List, [], ◌∷◌, ◌++◌, length, take, refl, sym, ap, ◌∙◌, append_assoc, length-append, arith}
-use Rattle.std.proofs.lemmas.List.{append-nil}
-use Rattle.std.proofs.lemmas.Bool.{eq-eqb}
-use Rattle.mh_model.specs.Bytes.{Text, Cut, cut_after, with_byte, words, is_text}
-use Rattle.mh_model.specs.HistoryTexts.{Halves, halves_at}
+use Rattle.std.proofs.{lemmas.List.append-nil, lemmas.Bool.eq-eqb}
+use Rattle.mh_model.specs.{Bytes.{Text, Cut, cut_after, with_byte, words, is_text}, HistoryTexts.{Halves, halves_at}}
 use Rattle.mh_text.specs.Pieces.{with_piece, words_left}
 
 -- Words of a longer text -------------------------------------------------------------------------

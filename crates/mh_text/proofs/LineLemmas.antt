@@ -1,12 +1,8 @@
 -- Lines with a configuration, and lines of a session.
 use Rattle.std.proofs.Common.{◌≡◌, ℕ, nat_lt, Some, None, option_and_then, List, [], ◌∷◌, length, get_or, refl, arith}
-use Rattle.mh_model.specs.Configs.{configured}
-use Rattle.mh_model.specs.Bytes.{Text, numbers}
-use Rattle.mh_model.specs.Forms.{within, u32}
-use Rattle.mh_model.specs.Script.{config_of}
+use Rattle.mh_model.specs.{Configs.configured, Bytes.{Text, numbers}, Forms.{within, u32}, Script.config_of}
 use Rattle.mh_text.specs.Words.{few_numbers}
-use Rattle.mh_text.proofs.WordLemmas.{none_of}
-use Rattle.mh_text.proofs.FormLemmas.{small_same}
+use Rattle.mh_text.proofs.{WordLemmas.none_of, FormLemmas.small_same}
 
 pub config_other : (found : List ℕ) → (length found ≡ 4 → ⊥) → config_of found ≡ None
 config_other [] other = refl

@@ -1,13 +1,9 @@
 -- The place of a name among those seen.
 use Rattle.std.proofs.Common.{◌≡◌, ℕ, zero, suc, ◌+◌, ◌<◌, ◌≤◌, ◌==◌, nat_lt, nat_le, nat_eq, ◌&&◌, ◌||◌, not, Bool, true, false, cond, Option, Some, None, is_none, List, [], ◌∷◌, ◌++◌, length, length-append, get_or, set, ap, subst, sym, refl, ◌∙◌, arith}
-use Rattle.std.specs.Prelude.{if◌then◌else◌, IfSome}
-use Rattle.std.specs.Cmp.Lexicographic.{pointwise, nat_list_eq_equiv}
-use Rattle.std.specs.List.{list_all, list_any, position}
-use Rattle.std.proofs.lemmas.List.{map-append}
-use Rattle.std.specs.Borrow.{Bor}
-use Rattle.std.proofs.lemmas.Bool.Decides.{nat_tests}
-use Rattle.mh_model.specs.Bytes.{Text, is_text, is_name}
-use Rattle.mh_model.specs.Script.{session_number, with_name}
+use Rattle.std.proofs.{lemmas.List.map-append, lemmas.Bool.Decides.nat_tests}
+use Rattle.std.specs.{Prelude.{if◌then◌else◌, IfSome}, Cmp.Lexicographic.{pointwise, nat_list_eq_equiv}}
+use Rattle.std.specs.{List.{list_all, list_any, position}, Borrow.Bor}
+use Rattle.mh_model.specs.{Bytes.{Text, is_text, is_name}, Script.{session_number, with_name}}
 use Rattle.mh_text.specs.Names.{names_shown, IsKnown, AreKnown}
 use Rattle.mh_text.proofs.NamePlaces.{place, place_le_by, place_shown, number_found, number_missing}
 use Rattle.mh_model.proofs.TextLemmas.{text_is, text_itself}

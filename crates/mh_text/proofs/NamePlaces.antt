@@ -1,10 +1,8 @@
 -- The place of a name among the names that things show.
 use Rattle.std.proofs.Common.{◌≡◌, ◌∙◌, ℕ, ◌+◌, ◌≤◌, nat_lt, not, Bool, true, false, cond, Some, None, List, [], ◌∷◌, length, ap, refl, arith}
-use Rattle.std.specs.Prelude.{map}
-use Rattle.std.specs.List.{position, position_or_len}
 use Rattle.std.proofs.lemmas.Bool.Decides.{nat_tests}
-use Rattle.mh_model.specs.Bytes.{Text, is_text}
-use Rattle.mh_model.specs.Script.{session_number}
+use Rattle.std.specs.{Prelude.map, List.{position, position_or_len}}
+use Rattle.mh_model.specs.{Bytes.{Text, is_text}, Script.session_number}
 
 pub place_le_by : (is : Bool) (n k : ℕ) → n ≤ k → cond (not is) (1 + n) 0 ≤ k + 1
 place_le_by true n k le = omega arith

@@ -1,8 +1,6 @@
 -- Where the first piece of a text ends.
 use Rattle.std.proofs.Common.{◌≡◌, ℕ, suc, ◌+◌, ◌<◌, ◌==◌, not, cond, Bool, true, false, Option, Some, None, List, [], ◌∷◌, ◌++◌, length, take, drop, ap, sym, refl, subst, ◌≤◌, ◌-◌, nat_lt, MatchOption, IsTrue, ◌↔◌, arith}
-use Rattle.std.proofs.lemmas.Bool.Decides.{nat_tests}
-use Rattle.std.proofs.lemmas.List.{take_rest}
-use Rattle.std.proofs.lemmas.List.Sums.{position_or_len_is}
+use Rattle.std.proofs.{lemmas.Bool.Decides.nat_tests, lemmas.List.take_rest, lemmas.List.Sums.position_or_len_is}
 use Rattle.std.specs.List.{position, position_or_len}
 use Rattle.memchr.specs.Find.{IsFirstByte, is_byte}
 use Rattle.mh_model.specs.Bytes.{Text, Cut, cut_after, with_byte}

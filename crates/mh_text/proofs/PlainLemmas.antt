@@ -1,30 +1,20 @@
 -- Lines of commands in their plain form.
 use Rattle.std.proofs.Common.{◌≡◌, ℕ, zero, suc, ◌+◌, ◌*◌, ◌-◌, ◌^◌, ◌<◌, ◌≤◌, ◌==◌, nat_lt, nat_le, not, ◌&&◌, ◌||◌, Bool, true, false, Some, None, List, [], ◌∷◌, ◌++◌, length, get_or, take, drop, ap, sym, refl, ◌∙◌, arith}
-use Rattle.std.specs.Prelude.{codes, if◌then◌else◌}
-use Rattle.std.specs.List.{list_all, prefix_len, take_while}
-use Rattle.std.proofs.lemmas.List.{append-nil, take_rest}
-use Rattle.std.proofs.lemmas.Bool.{and_parts}
-use Rattle.std.proofs.lemmas.Bool.Decides.{nat_tests}
-use Rattle.mh_model.specs.declared.command.Command.{Command}
-use Rattle.mh_model.specs.declared.command.Event.TheVariants as event
-use Rattle.mh_text.specs.declared.verbs.VerbOfThree.{VerbOfThree}
-use Rattle.mh_text.specs.declared.verbs.VerbOfThree.TheVariants.{New}
-use Rattle.mh_text.specs.declared.verbs.VerbOfTwo.{VerbOfTwo}
-use Rattle.mh_text.specs.declared.verbs.VerbOfTwo.TheVariants.{Copy}
-use Rattle.mh_text.specs.declared.verbs.VerbOfOne.{VerbOfOne}
-use Rattle.mh_text.specs.declared.verbs.VerbOfOne.TheVariants.{Clear, Shape}
+use Rattle.std.proofs.{lemmas.List.{append-nil, take_rest}, lemmas.Bool.and_parts, lemmas.Bool.Decides.nat_tests}
+use Rattle.std.specs.{Prelude.{codes, if◌then◌else◌}, List.{list_all, prefix_len, take_while}}
+use Rattle.mh_model.specs.{declared.command.Command.Command, declared.command.Event.Event}
 use Rattle.mh_model.specs.Bytes.{Text, Cut, cut_after, with_byte, words, is_text, is_digit, is_letter, is_numeral, is_name, value_after, number}
 use Rattle.mh_model.specs.Forms.{command_of}
-use Rattle.mh_model.specs.Script as book
-use Rattle.mh_text.specs.Pieces.{lines_from, with_piece}
-use Rattle.mh_text.specs.Names.{IsKnown}
-use Rattle.mh_text.specs.Rows.{said, one_rows, two_rows, three_rows}
+use Rattle.mh_text.specs.{declared.verbs.VerbOfThree.VerbOfThree, declared.verbs.VerbOfThree.TheVariants.New}
+use Rattle.mh_text.specs.{declared.verbs.VerbOfTwo.VerbOfTwo, declared.verbs.VerbOfTwo.TheVariants.Copy}
+use Rattle.mh_text.specs.{declared.verbs.VerbOfOne.VerbOfOne, declared.verbs.VerbOfOne.TheVariants.{Clear, Shape}}
+use Rattle.mh_text.specs.{Pieces.{lines_from, with_piece}, Names.IsKnown, Rows.{said, one_rows, two_rows, three_rows}}
 use Rattle.mh_text.specs.Words.{few_numbers}
 use Rattle.mh_text.specs.Plain.{BeginsWithLine, BeginsWithCommand, BeginsWithName, BeginsWithNumberBefore, TakesEvent}
 use Rattle.mh_text.specs.Verbs.{one_word, two_word, three_word}
 use Rattle.mh_model.proofs.TextLemmas.{text_is}
-use Rattle.mh_text.proofs.DigitLemmas.{number_is}
-use Rattle.mh_text.proofs.FormLemmas.{command_said, one_counted, two_counted, three_counted}
+use Rattle.mh_text.proofs.{DigitLemmas.number_is, FormLemmas.{command_said, one_counted, two_counted, three_counted}}
+use Rattle.mh_model.specs.Script as book
 
 -- Bytes that end nothing -------------------------------------------------------------------------
 
@@ -228,7 +218,7 @@ line_named line (byte ∷ bytes) more after command whole says named is =
     rw (full, says, star, named, is) refl
 
 pub takes_event : (names : List Text) (first who : ℕ) (text t rest : Text) (command : Command) → BeginsWithName names text who t → BeginsWithCommand t command rest
-    → TakesEvent names (lines_from first text) (lines_from (first + 1) rest) (event.Session who command)
+    → TakesEvent names (lines_from first text) (lines_from (first + 1) rest) (Event.Session who command)
 unfolding line_more
 takes_event names first who text t rest command named begins =
     let line = line_more text named.name t begins.said rest named.whole (name_word named.name named.known.0) begins.begins in

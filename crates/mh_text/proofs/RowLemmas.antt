@@ -1,9 +1,7 @@
 -- Tables of forms: their words, and their rows by how many numbers they have.
 use Rattle.std.proofs.Common.{◌≡◌, ℕ, suc, ◌<◌, ◌==◌, nat_lt, ◌&&◌, Bool, true, false, Option, Some, None, option_and_then, List, [], ◌∷◌, length, map, ap, sym, refl, ◌∙◌, arith}
+use Rattle.std.proofs.{lemmas.Bool.Decides.nat_tests, Math.Bool.and-false, lemmas.Bool.and_parts}
 use Rattle.std.specs.Prelude.{if◌then◌else◌}
-use Rattle.std.proofs.lemmas.Bool.Decides.{nat_tests}
-use Rattle.std.proofs.Math.Bool.{and-false}
-use Rattle.std.proofs.lemmas.Bool.{and_parts}
 use Rattle.mh_model.proofs.TextLemmas.{text_is}
 use Rattle.mh_model.specs.Bytes.{Text, is_text, numbers}
 use Rattle.mh_model.specs.Forms.{Form, within, form_of, formed, are_below, Row, row_form}

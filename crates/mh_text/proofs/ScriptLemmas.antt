@@ -1,18 +1,12 @@
 -- Reading the lines of a script one after another.
 use Rattle.std.proofs.Common.{◌≡◌, ℕ, suc, ◌+◌, ◌<◌, ◌≤◌, nat_lt, Bool, true, false, Some, Result, Ok, Err, List, [], ◌∷◌, ◌++◌, length, take, map, ap, sym, refl, ◌∙◌, append_assoc, arith}
-use Rattle.std.specs.Prelude.{if◌then◌else◌, IfOk}
-use Rattle.std.specs.Result.{result_ok}
-use Rattle.std.proofs.lemmas.Bool.Decides.{nat_tests}
-use Rattle.std.proofs.lemmas.List.{append-nil, length-append}
-use Rattle.mh_model.specs.declared.config.Config.{Config}
-use Rattle.mh_model.specs.declared.command.Command.{Command}
-use Rattle.mh_model.specs.declared.command.Control.{Control}
-use Rattle.mh_model.specs.declared.command.Event.{Event}
-use Rattle.mh_model.specs.declared.command.Event.TheVariants as event
+use Rattle.std.proofs.{lemmas.Bool.Decides.nat_tests, lemmas.List.{append-nil, length-append}}
+use Rattle.std.specs.{Prelude.{if◌then◌else◌, IfOk}, Result.result_ok}
+use Rattle.mh_model.specs.{declared.config.Config.Config, declared.command.Command.Command}
+use Rattle.mh_model.specs.{declared.command.Control.Control, declared.command.Event.Event}
 use Rattle.mh_model.specs.Bytes.{Text, words, cut_after}
 use Rattle.mh_model.specs.Script.{Reading, BadLine, Means, Blank, Calls, Asks, Wrong, line_of, is_blank, config_words, session_number, with_name, with_event, at_end, events_from, script_from, reading}
-use Rattle.mh_text.specs.declared.text_error.TextError.{TextError}
-use Rattle.mh_text.specs.Pieces.{Lines, TakesLine, lines_from}
+use Rattle.mh_text.specs.{declared.text_error.TextError.TextError, Pieces.{Lines, TakesLine, lines_from}}
 use Rattle.mh_text.specs.Plain.{TakesEvent}
 use Rattle.mh_text.specs.Reading.{script_left, events_left, with_config, TakesConfig, HasEvent, BeginsWithEvent}
 
@@ -98,26 +92,26 @@ pub walks_blank : (old mid new : Lines) (names : List Text) (es : List Event) (n
 walks_blank old mid new names es n line done takes is = walks_line old mid new names names es es n line done takes (λ more rest. rw is refl)
 
 pub walks_calls : (old mid new : Lines) (names : List Text) (es : List Event) (n : ℕ) (line name : Text) (command : Command) → Walks old mid names es → TakesLine mid new n line → line_of line ≡ Calls name command
-    → Walks old new (with_name names name) (es ++ event.Session (session_number names name) command ∷ [])
+    → Walks old new (with_name names name) (es ++ Event.Session (session_number names name) command ∷ [])
 walks_calls old mid new names es n line name command done takes is =
-    walks_line old mid new names (with_name names name) es (es ++ event.Session (session_number names name) command ∷ []) n line done takes (λ more rest. rw (is, with_events-push) refl)
+    walks_line old mid new names (with_name names name) es (es ++ Event.Session (session_number names name) command ∷ []) n line done takes (λ more rest. rw (is, with_events-push) refl)
 
 pub walks_called : (old mid new : Lines) (names seen : List Text) (es fs : List Event) (n : ℕ) (line name : Text) (command : Command) (who : ℕ) → Walks old mid names es → TakesLine mid new n line → line_of line ≡ Calls name command
-    → who ≡ session_number names name → seen ≡ with_name names name → fs ≡ es ++ event.Session who command ∷ [] → Walks old new seen fs
+    → who ≡ session_number names name → seen ≡ with_name names name → fs ≡ es ++ Event.Session who command ∷ [] → Walks old new seen fs
 walks_called old mid new names seen es fs n line name command who done takes is number added pushed =
     rw (added, pushed, number) (walks_calls old mid new names es n line name command done takes is)
 
 pub walks_known : (old mid new : Lines) (names : List Text) (es : List Event) (taken : Event) → Walks old mid names es → TakesEvent names mid new taken → Walks old new names (es ++ taken ∷ [])
 walks_known old mid new names es taken done takes =
-    rw takes.is (walks_called old mid new names names es (es ++ event.Session takes.who takes.command ∷ []) mid.number takes.line takes.name takes.command takes.who done takes.takes takes.says (sym takes.known.1.0) (sym takes.known.1.1) refl)
+    rw takes.is (walks_called old mid new names names es (es ++ Event.Session takes.who takes.command ∷ []) mid.number takes.line takes.name takes.command takes.who done takes.takes takes.says (sym takes.known.1.0) (sym takes.known.1.1) refl)
 
 pub event_fewer : (old new : Lines) (names : List Text) (taken : Event) → TakesEvent names old new taken → length new.lines < length old.lines
 event_fewer old new names taken takes = let one : length old.lines ≡ suc (length new.lines) = ap length takes.takes.taken in omega arith
 
 pub walks_asks : (old mid new : Lines) (names : List Text) (es : List Event) (n : ℕ) (line : Text) (control : Control) → Walks old mid names es → TakesLine mid new n line → line_of line ≡ Asks control
-    → Walks old new names (es ++ event.Control control ∷ [])
+    → Walks old new names (es ++ Event.Control control ∷ [])
 walks_asks old mid new names es n line control done takes is =
-    walks_line old mid new names names es (es ++ event.Control control ∷ []) n line done takes (λ more rest. rw (is, with_events-push) refl)
+    walks_line old mid new names names es (es ++ Event.Control control ∷ []) n line done takes (λ more rest. rw (is, with_events-push) refl)
 
 walks_whole : (old mid : Lines) (names : List Text) (es : List Event) → Walks old mid names es → events_left old ≡ with_events es (events_from names mid.number (map line_of mid.lines) mid.rest)
 walks_whole old mid names es done = rw (done.lines, ← done.after) (done.reads mid.lines mid.rest)

@@ -1,17 +1,30 @@
--- What writes in a row make of known bytes.
-use Rattle.std.proofs.Common.{◌≡◌, ℕ, ◌+◌, ◌-◌, List, Option, take, drop, length, arith, take-append-drop}
-use Rattle.std.proofs.KnownBytes.{Appends-trans, Appends-kept}
-use Rattle.std.proofs.lemmas.Grind.{common_steps}
+-- What calls in a row make of a device.
+use Rattle.std.proofs.Common.{◌≡◌, ◌∙◌, sym, ℕ, ◌+◌, ◌-◌, ◌<◌, take, drop, length, length-append, take-append-drop, arith}
+use Rattle.std.proofs.{KnownBytes.{Appends-kept, Appends-trans, Consumes-trans}, lemmas.Grind.common_steps}
 use Rattle.std.proofs.Math.Seq.{take-add}
-use Rattle.std.specs.Io.KnownBytes.{Appends, Keeps}
-use Rattle.mh_text.specs.Stream.{AppendsBeginning}
+use Rattle.mh_model.specs.Bytes.{Text}
+use Rattle.mh_text.specs.Devices.{Device, FailsAt, FailsAtOnce, Gives, GivesSome, Takes}
 
--- the text up to a place was written, and then nothing
-pub AppendsBeginning-kept : (a b c : Option (List ℕ)) (text : List ℕ) (i : ℕ) → Appends a b (take i text) → Keeps b c → AppendsBeginning a c text
-AppendsBeginning-kept a b c text i before kept = (take i text, drop i text, take-append-drop i text, Appends-kept a b c (take i text) before kept)
+-- a source gave some bytes, and then one at least
+pub gives-some : {a b c : Device} {text more : Text} → Gives a b text → Gives b c more → 0 < length more → GivesSome a c
+gives-some {a} {b} {c} {text} {more} before after some = record {
+  text = _;
+  some = omega (arith, length-append text more);
+  gives = record { bytes = Consumes-trans a.bytes b.bytes c.bytes text more before.bytes after.bytes; works = after.works ∙ before.works };
+}
 
--- the text up to a place was written, and then more of it from there
-pub Appends-more : (a b c : Option (List ℕ)) (text : List ℕ) (i n : ℕ) → Appends a b (take i text) → Appends b c (take n (take (length text - i) (drop i text))) → Appends a c (take (i + n) text)
-Appends-more a b c text i n before more =
+-- a sink was given the text up to a place, and then failed
+pub takes-fails : {a b c : Device} (text : Text) (i : ℕ) → Takes a b (take i text) → FailsAtOnce b c → FailsAt a c text
+takes-fails {a} {b} {c} text i before failed = record {
+  bytes = (take i text, drop i text, take-append-drop i text, Appends-kept a.bytes b.bytes c.bytes (take i text) before.bytes failed.bytes);
+  fails = λ same. failed.fails (same ∙ sym before.works);
+}
+
+-- the text up to a place, and then more of it from there
+pub takes-more : {a b c : Device} (text : Text) (i n : ℕ) → Takes a b (take i text) → Takes b c (take n (take (length text - i) (drop i text))) → Takes a c (take (i + n) text)
+takes-more {a} {b} {c} text i n before more =
     let whole : take (length text - i) (drop i text) ≡ drop i text = grind (arith, common_steps) in
-    rw (take-add i n text) (Appends-trans a b c _ _ before (rw whole at more))
+    record {
+      bytes = rw (take-add i n text) (Appends-trans a.bytes b.bytes c.bytes _ _ before.bytes (rw whole at more.bytes));
+      works = more.works ∙ before.works;
+    }

@@ -1,10 +1,7 @@
 -- What the bytes of a word say of it.
 use Rattle.std.proofs.Common.{◌≡◌, ℕ, suc, ◌+◌, ◌*◌, ◌-◌, ◌<◌, ◌≤◌, ◌==◌, nat_lt, nat_le, ◌&&◌, ◌||◌, Bool, true, false, Option, Some, None, option_map, option_and_then, cond, List, [], ◌∷◌, ◌++◌, length, get_or, ap, subst, sym, refl, ◌∙◌, append_assoc, arith}
-use Rattle.std.specs.Prelude.{Decides}
-use Rattle.std.specs.List.{list_all}
-use Rattle.std.proofs.lemmas.List.{append-nil}
-use Rattle.std.proofs.lemmas.Bool.Decides.{nat_tests}
-use Rattle.std.proofs.Math.Bool.{and-false, and-true}
+use Rattle.std.proofs.{lemmas.List.append-nil, lemmas.Bool.Decides.nat_tests, Math.Bool.{and-false, and-true}}
+use Rattle.std.specs.{Prelude.Decides, List.list_all}
 use Rattle.mh_model.proofs.TextLemmas.{text_is, text_itself}
 use Rattle.mh_model.specs.Bytes.{Text, is_text, is_digit, is_letter, is_numeral, is_name, value_after, number, numbers}
 use Rattle.mh_text.specs.Words.{few_numbers}

@@ -1,4 +1,4 @@
-pub mod Stream
+pub mod Devices
 pub mod Pieces
 pub mod Words
 pub mod Rows

@@ -1,7 +1,6 @@
 -- Lines of the code, in the model's words.
 use Rattle.mh_model.specs.Script as book
-use Rattle.mh_text.specs.declared.line.Line.{Line}
-use Rattle.mh_text.specs.declared.line.Line.TheVariants.{Blank, Calls, Asks, Wrong}
+use Rattle.mh_text.specs.declared.line.Line.{Line, TheVariants.{Blank, Calls, Asks, Wrong}}
 
 -- a line of the code as a line of the model
 abbrev pub line_shown : Line → book.Line

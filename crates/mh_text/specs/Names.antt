@@ -1,8 +1,6 @@
 -- The names of sessions that were seen.
-use Rattle.std.specs.Prelude.{◌≡◌, ℕ, true, Option, None, IfSome, List, [], ◌∷◌, get_or, map}
-use Rattle.std.specs.Borrow.{Bor}
-use Rattle.mh_model.specs.Bytes.{Text, is_name, cut_after}
-use Rattle.mh_model.specs.Script.{Line, Blank, Calls, Asks, Wrong, line_of, session_number, with_name}
+use Rattle.std.specs.{Prelude.{◌≡◌, ℕ, true, Option, None, IfSome, List, [], ◌∷◌, get_or, map}, Borrow.Bor}
+use Rattle.mh_model.specs.{Bytes.{Text, is_name, cut_after}, Script.{Line, Calls, line_of, session_number, with_name}}
 
 -- the names of the sessions that these lines call, after some that were seen before: in the order in which they are first seen, eight at most
 abbrev pub names_from : List Text → List Line → List Text

@@ -1,6 +1,5 @@
 -- What is left of a text that is read piece by piece.
-use Rattle.std.specs.Prelude.{◌≡◌, ℕ, suc, Option, Some, None, option_map, List, [], ◌∷◌}
-use Rattle.std.specs.Borrow.{Bor}
+use Rattle.std.specs.{Prelude.{◌≡◌, ℕ, suc, Option, Some, None, option_map, List, [], ◌∷◌}, Borrow.Bor}
 use Rattle.mh_model.specs.Bytes.{Text, Cut, cut_after, words}
 
 -- a cut with one more piece in front

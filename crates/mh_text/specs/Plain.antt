@@ -1,13 +1,9 @@
 -- Lines of commands in their plain form: a name that is known, a verb, and its numbers.
 use Rattle.std.specs.Prelude.{◌≡◌, ℕ, Some, List, ◌∷◌, ◌++◌}
-use Rattle.mh_model.specs.declared.command.Command.{Command}
-use Rattle.mh_model.specs.declared.command.Event.{Event}
-use Rattle.mh_model.specs.declared.command.Event.TheVariants as event
-use Rattle.mh_model.specs.Bytes.{Text, cut_after, words, number}
-use Rattle.mh_model.specs.Forms.{command_of}
+use Rattle.mh_model.specs.{declared.command.Command.Command, declared.command.Event.Event}
+use Rattle.mh_model.specs.{Bytes.{Text, cut_after, words, number}, Forms.command_of}
+use Rattle.mh_text.specs.{Names.IsKnown, Pieces.{Lines, TakesLine, with_piece}}
 use Rattle.mh_model.specs.Script as book
-use Rattle.mh_text.specs.Names.{IsKnown}
-use Rattle.mh_text.specs.Pieces.{Lines, TakesLine, with_piece}
 
 -- the first line of a text has these words, and this text follows it
 pub record BeginsWithLine (text : Text) (said : List Text) (rest : Text) : Type 0 where
@@ -42,4 +38,4 @@ pub record TakesEvent (names : List Text) (old new : Lines) (taken : Event) : Ty
   pub says : book.line_of line ≡ book.Calls name command
   pub who : ℕ
   pub known : IsKnown names name who
-  pub is : taken ≡ event.Session who command
+  pub is : taken ≡ Event.Session who command

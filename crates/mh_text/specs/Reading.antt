@@ -1,8 +1,6 @@
 -- How a script is read from a line on.
 use Rattle.std.specs.Prelude.{◌≡◌, ℕ, ◌<◌, ◌≤◌, List, [], ◌++◌, length, take, map}
-use Rattle.mh_model.specs.declared.config.Config.{Config}
-use Rattle.mh_model.specs.declared.command.Event.{Event}
-use Rattle.mh_model.specs.Bytes.{Text, Cut, cut_after}
+use Rattle.mh_model.specs.{declared.config.Config.Config, declared.command.Event.Event, Bytes.{Text, Cut, cut_after}}
 use Rattle.mh_model.specs.Script.{Meaning, Reading, Means, reading_map, line_of, script_from, events_from, script_of}
 use Rattle.mh_text.specs.Pieces.{Lines}
 

@@ -1,8 +1,6 @@
 -- The words of parts of replies.
 use Rattle.std.specs.Prelude.{List, [], ◌∷◌, flat_map, codes, decimal}
-use Rattle.mh_model.specs.Bytes.{Text}
-use Rattle.mh_model.specs.declared.report.Report.{Report}
-use Rattle.mh_model.specs.Replies.{optional_word}
+use Rattle.mh_model.specs.{Bytes.Text, declared.report.Report.Report, Replies.optional_word}
 
 -- words with a space before each
 abbrev pub spaced : List Text → Text

@@ -1,9 +1,7 @@
 -- Tables of forms by how many numbers their rows have.
 use Rattle.std.specs.Prelude.{ℕ, ◌==◌, if◌then◌else◌, Option, None, List, [], ◌∷◌, length}
-use Rattle.mh_model.specs.declared.command.Command.{Command}
-use Rattle.mh_model.specs.declared.command.Control.{Control}
-use Rattle.mh_model.specs.declared.history.Version.{Version}
-use Rattle.mh_model.specs.Bytes.{Text, is_text}
+use Rattle.mh_model.specs.{declared.command.Command.Command, declared.command.Control.Control}
+use Rattle.mh_model.specs.{declared.history.Version.Version, Bytes.{Text, is_text}}
 use Rattle.mh_model.specs.Forms.{Row, within, are_below, command_rows, control_rows}
 
 -- what a word and numbers are by the first row with that word

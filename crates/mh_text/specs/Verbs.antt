@@ -1,13 +1,9 @@
 -- How verbs are written, by how many numbers follow them.
 use Rattle.std.specs.Prelude.{codes}
 use Rattle.mh_model.specs.Bytes.{Text}
-use Rattle.mh_text.specs.declared.verbs.VerbOfThree.{VerbOfThree}
-use Rattle.mh_text.specs.declared.verbs.VerbOfThree.TheVariants.{New, Get, Put, Write}
-use Rattle.mh_text.specs.declared.verbs.VerbOfTwo.{VerbOfTwo}
-use Rattle.mh_text.specs.declared.verbs.VerbOfTwo.TheVariants.{Copy, Read, Same, Post, Take}
-use Rattle.mh_text.specs.declared.verbs.VerbOfOne.{VerbOfOne}
-use Rattle.mh_text.specs.declared.verbs.VerbOfOne.TheVariants.{Clear, Shape}
-use Rattle.mh_text.specs.declared.verbs.Verb.{Verb}
+use Rattle.mh_text.specs.declared.verbs.{VerbOfThree.VerbOfThree, VerbOfThree.TheVariants.{New, Get, Put, Write}}
+use Rattle.mh_text.specs.declared.verbs.{VerbOfTwo.VerbOfTwo, VerbOfTwo.TheVariants.{Copy, Read, Same, Post, Take}}
+use Rattle.mh_text.specs.declared.verbs.{VerbOfOne.VerbOfOne, VerbOfOne.TheVariants.{Clear, Shape}, Verb.Verb}
 use Rattle.mh_text.specs.declared.verbs.Verb.TheVariants.{OfThree, OfTwo, OfOne}
 
 abbrev pub three_word : VerbOfThree → Text

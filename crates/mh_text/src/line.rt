@@ -2,8 +2,7 @@
 //! `config` is a lawful session name: after the configuration `config new 0 0 0` is a command, and a second
 //! configuration line is bad.
 ghost use Rattle.std.specs.Prelude.{◌≡◌};
-ghost use Rattle.mh_model.specs.Script.{config_of, config_words, line_words, line_of, is_blank};
-ghost use Rattle.mh_model.specs.Bytes.{words};
+ghost use Rattle.mh_model.specs.{Script.{config_of, config_words, line_words, line_of, is_blank}, Bytes.words};
 ghost use Rattle.mh_model.specs.Configs.{configured};
 ghost use Rattle.mh_text.specs.Line.{line_shown};
 

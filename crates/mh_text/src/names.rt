@@ -5,10 +5,8 @@
 //! for names. Names that were looked up stand in a table too, by their first two bytes, which is tried first.
 ghost use Rattle.std.specs.Prelude.{◌≡◌, ◌+◌, ◌<◌, ◌≤◌, ◌^◌, true, is_none, [], length, IfOk, IfSome, OnOk, OnErr};
 ghost use Rattle.std.specs.List.{list_all};
-ghost use Rattle.mh_model.specs.Bytes.{is_text};
-ghost use Rattle.mh_model.specs.Script.{session_number, with_name};
-ghost use Rattle.mh_text.specs.Names.{names_in, names_shown};
-ghost use Rattle.mh_text.specs.Plain.{BeginsWithName};
+ghost use Rattle.mh_model.specs.{Bytes.is_text, Script.{session_number, with_name}};
+ghost use Rattle.mh_text.specs.{Names.{names_in, names_shown}, Plain.BeginsWithName};
 
 use crate::line::{Line, line_of};
 use crate::pieces::Lines;

@@ -1,8 +1,7 @@
 //! Texts cut into lines, and lines into words, as in the model. Each piece is a part of the text that was given, so
 //! cutting takes no memory.
 ghost use Rattle.std.specs.Prelude.{◌≡◌, ◌==◌, ◌<◌, ◌^◌, ◌+◌, ◌↔◌, [], ◌∷◌, ◌++◌, length, position, Some, None, IfSome, IfNone, IsTrue};
-ghost use Rattle.mh_model.specs.Bytes.{cut_after, words};
-ghost use Rattle.mh_model.specs.HistoryTexts.{halves_at};
+ghost use Rattle.mh_model.specs.{Bytes.{cut_after, words}, HistoryTexts.halves_at};
 ghost use Rattle.mh_text.specs.Pieces.{with_piece, lines_from, TakesLine, text_shown, words_left};
 
 use crate::word::is_word;

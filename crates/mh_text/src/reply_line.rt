@@ -1,11 +1,9 @@
 //! The lines of replies, added to a text. Each is exactly the model's. Short replies are put together from words and
 //! digits, and the long ones by `ReplyText`.
-ghost use Rattle.std.specs.Prelude.{◌≡◌, ◌++◌, [], ◌∷◌, codes, decimal, OnOk};
-ghost use Rattle.std.specs.String.{string_bytes};
-ghost use Rattle.mh_model.specs.Bytes.{line_text};
-ghost use Rattle.mh_model.specs.Replies.{phase_word, reply_text};
-ghost use Rattle.mh_model.specs.declared.reply.Reply.TheVariants as reply;
+ghost use Rattle.std.specs.{Prelude.{◌≡◌, ◌++◌, [], ◌∷◌, codes, decimal, OnOk}, String.string_bytes};
+ghost use Rattle.mh_model.specs.{Bytes.line_text, Replies.{phase_word, reply_text}};
 ghost use Rattle.mh_text.specs.ReplyWords.{spaced};
+ghost use Rattle.mh_model.specs.declared.reply.Reply.TheVariants as reply;
 
 use crate::reply_text::ReplyText;
 use itoa::Buffer;

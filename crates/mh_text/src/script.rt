@@ -2,7 +2,7 @@
 //! Otherwise its first bad line is named. Out of memory is answered only if the text begins with an event (`memory`).
 ghost use Rattle.std.specs.Prelude.{◌≡◌, ◌≢◌, [], IfOk, IfErr, IfSome, IfNone, IsErrOf};
 ghost use Rattle.mh_model.specs.Script.{Means, reading};
-ghost use Rattle.mh_text.specs.Taken.{Takes};
+ghost use Rattle.mh_text.specs.Taken.{TakesNext};
 ghost use Rattle.mh_text.specs.Reading.{TakesConfig, HasEvent, BeginsWithEvent, script_left, events_left};
 ghost use Rattle.mh_text.specs.TextErrors.{Refuses};
 
@@ -88,7 +88,7 @@ enum Taken<'a> {
 /// Takes the next line.
 #[inline(always)]
 fn take_next<'a>(lines: &mut Lines<'a>, names: &Names<'_>) -> Option<Taken<'a>>
-    ensures next { IfSome result (λ taken. Takes names.now lines.old lines.new taken) }
+    ensures next { IfSome result (λ taken. TakesNext names.now lines.old lines.new taken) }
     ensures end { IfNone result (lines.old.lines ≡ []) }
     ensures same { IfNone result (lines.new ≡ lines.old) }
 {

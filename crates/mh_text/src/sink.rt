@@ -1,10 +1,9 @@
 //! Where bytes go. What was interrupted is tried again, 2^64 - 1 times at most, and is no failure of a device before
 //! that. A write of 0 bytes is one. Contracts speak of the bytes that were written only if they are known, as over
 //! memory.
-ghost use Rattle.std.specs.Prelude.{◌≡◌, ◌≢◌, ◌≤◌, ◌<◌, ◌+◌, ◌^◌, ℕ, List, Option, length, take, IfOk, IfErr, OnOk, OnErr};
-ghost use Rattle.std.specs.Io.{WritesAtMost};
-ghost use Rattle.std.specs.Io.KnownBytes.{Appends, Keeps, WriteAppends};
-ghost use Rattle.std.specs.IoError.{error_kind};
+ghost use Rattle.std.specs.{Prelude.{◌≡◌, ◌≢◌, ◌≤◌, ◌<◌, length, take, IfOk, IfErr, OnErr}, Io.WritesAtMost};
+ghost use Rattle.std.specs.{Io.KnownBytes.WriteAppends, IoError.error_kind};
+ghost use Rattle.mh_text.specs.Devices.{Device, FailsAtOnce, Takes};
 
 use crate::device::DeviceFailed;
 use std::io;
@@ -12,22 +11,16 @@ use std::io::{ErrorKind, Write};
 
 /// Where bytes go.
 pub trait Sink {
-    // The bytes that were written, if they are known.
-    ghost written: { Self → Option (List ℕ) };
-
-    // How often the device failed.
-    ghost failures: { Self → ℕ };
+    // What is known of the device.
+    ghost device: { Self → Device };
 
     /// Writes some of the first bytes of `bytes`, at least one, and returns their number.
     fn write(&mut self, bytes: &[u8]) -> Result<usize, DeviceFailed>
-        requires some { 0 < length bytes.now }
-        requires count { failures self.old < 2 ^ 62 }
+        requires { 0 < length bytes.now }
         ensures progress { IfOk result (λ count. 0 < count) }
         ensures within { IfOk result (λ count. count ≤ length bytes.now) }
-        ensures wrote { IfOk result (λ count. Appends (written self.old) (written self.new) (take count bytes.now)) }
-        ensures kept { OnErr result (Keeps (written self.old) (written self.new)) }
-        ensures no_failure { OnOk result (failures self.new ≡ failures self.old) }
-        ensures failed { OnErr result (failures self.new ≡ failures self.old + 1) };
+        ensures wrote { IfOk result (λ count. Takes (device self.old) (device self.new) (take count bytes.now)) }
+        ensures failed { OnErr result (FailsAtOnce (device self.old) (device self.new)) };
 }
 
 /// A writer of std as a sink. A write that is interrupted is tried again, and a write of 0 bytes counts as a failure.
@@ -50,15 +43,13 @@ impl<W: Write> StdSink<W> {
 }
 
 impl<W: Write> Sink for StdSink<W> {
-    ghost written = { λ sink. W.contents sink.writer };
-
-    ghost failures = { λ sink. sink.failures };
+    ghost device = { λ sink. record { bytes = W.contents sink.writer; failures = sink.failures } };
 
     fn write(&mut self, bytes: &[u8]) -> Result<usize, DeviceFailed> {
         match write_retrying(&mut self.writer, bytes) {
             Ok(count) if count > 0 => Ok(count),
             _ => {
-                self.failures += 1;
+                self.failures = self.failures.wrapping_add(1);
                 Err(DeviceFailed)
             }
         }

@@ -1,9 +1,8 @@
 //! Where bytes come from. What was interrupted is tried again, 2^64 - 1 times at most, and is no failure of a device
 //! before that. Contracts speak of the bytes that are left only if they are known, as over memory.
-ghost use Rattle.std.specs.Prelude.{◌≡◌, ◌≢◌, ◌≤◌, ◌<◌, ◌+◌, ◌^◌, ℕ, List, Option, length, take, IfOk, IfErr, OnOk, OnErr};
-ghost use Rattle.std.specs.Io.{ReadsAtMost};
-ghost use Rattle.std.specs.Io.KnownBytes.{Consumes, Keeps, IsAtEnd, ReadConsumes};
-ghost use Rattle.std.specs.IoError.{error_kind};
+ghost use Rattle.std.specs.{Prelude.{◌≡◌, ◌≢◌, ◌≤◌, ◌<◌, length, take, IfOk, IfErr, OnErr}, Io.ReadsAtMost};
+ghost use Rattle.std.specs.{Io.KnownBytes.{IsAtEnd, ReadConsumes}, IoError.error_kind};
+ghost use Rattle.mh_text.specs.Devices.{Device, FailsAtOnce, Gives};
 
 use crate::device::DeviceFailed;
 use std::io;
@@ -11,22 +10,16 @@ use std::io::{ErrorKind, Read};
 
 /// Where bytes come from.
 pub trait Source {
-    // The bytes that are left, if they are known.
-    ghost rest: { Self → Option (List ℕ) };
-
-    // How often the device failed.
-    ghost failures: { Self → ℕ };
+    // What is known of the device.
+    ghost device: { Self → Device };
 
     /// Puts the next bytes at the start of `buffer`, and returns their number, which is 0 only at the end.
     fn read(&mut self, buffer: &mut [u8]) -> Result<usize, DeviceFailed>
-        requires room { 0 < length buffer.old }
-        requires count { failures self.old < 2 ^ 62 }
+        requires { 0 < length buffer.old }
         ensures within { IfOk result (λ count. count ≤ length buffer.new) }
-        ensures read { IfOk result (λ count. Consumes (rest self.old) (rest self.new) (take count buffer.new)) }
-        ensures end { IfOk result (λ count. count ≡ 0 → IsAtEnd (rest self.new)) }
-        ensures kept { OnErr result (Keeps (rest self.old) (rest self.new)) }
-        ensures no_failure { OnOk result (failures self.new ≡ failures self.old) }
-        ensures failed { OnErr result (failures self.new ≡ failures self.old + 1) };
+        ensures read { IfOk result (λ count. Gives (device self.old) (device self.new) (take count buffer.new)) }
+        ensures end { IfOk result (λ count. count ≡ 0 → IsAtEnd (device self.new).bytes) }
+        ensures failed { OnErr result (FailsAtOnce (device self.old) (device self.new)) };
 }
 
 /// A reader of std as a source. A read that is interrupted is tried again.
@@ -49,15 +42,13 @@ impl<R: Read> StdSource<R> {
 }
 
 impl<R: Read> Source for StdSource<R> {
-    ghost rest = { λ source. R.remaining source.reader };
-
-    ghost failures = { λ source. source.failures };
+    ghost device = { λ source. record { bytes = R.remaining source.reader; failures = source.failures } };
 
     fn read(&mut self, buffer: &mut [u8]) -> Result<usize, DeviceFailed> {
         match read_retrying(&mut self.reader, buffer) {
             Ok(count) => Ok(count),
             Err(_) => {
-                self.failures += 1;
+                self.failures = self.failures.wrapping_add(1);
                 Err(DeviceFailed)
             }
         }

@@ -3,9 +3,8 @@
 //! A text is read to its source's end, or until it is too long, and no further. It is written whole, or a prefix of it
 //! if the device failed. A device is blamed only if it failed in that call. Out of memory is answered only if none did
 //! and the source gave some byte. Nothing else stops a reading (`ReadError`).
-ghost use Rattle.std.specs.Prelude.{◌≡◌, ◌≤◌, ◌<◌, ◌^◌, IfOk, OnOk, OnErr, IsErrOf, length};
-ghost use Rattle.std.specs.Io.KnownBytes.{Consumes, Appends, IsAtEnd};
-ghost use Rattle.mh_text.specs.Stream.{AppendsBeginning, ConsumesBeginning, ConsumesSome};
+ghost use Rattle.std.specs.Prelude.{MatchResult};
+ghost use Rattle.mh_text.specs.Devices.{GivesWhole, IsWrite, NotRead};
 
 use crate::device::DeviceFailed;
 use crate::sink::Sink;
@@ -30,16 +29,7 @@ pub fn read_text<S: Source>(
     source: &mut S,
     most: usize,
 ) -> Result<Vec<u8>, ReadError>
-    requires { S.failures source.old < 2 ^ 62 }
-    ensures read { IfOk result (λ text. Consumes (S.rest source.old) (S.rest source.new) text.items) }
-    ensures whole { IfOk result (λ text. length text.items ≤ most → IsAtEnd (S.rest source.new)) }
-    ensures no_failure { OnOk result (S.failures source.new ≡ S.failures source.old) }
-    ensures begun { OnErr result (ConsumesBeginning (S.rest source.old) (S.rest source.new)) }
-    ensures blamed { IsErrOf result ReadError.Device → S.failures source.old < S.failures source.new }
-
-    // Memory is taken only for bytes that the source gave.
-    ensures took { IsErrOf result ReadError.NoMemory → ConsumesSome (S.rest source.old) (S.rest source.new) }
-    ensures not_blamed { IsErrOf result ReadError.NoMemory → S.failures source.new ≡ S.failures source.old }
+    ensures { MatchResult result (λ text. GivesWhole most (S.device source.old) (S.device source.new) text.items) (NotRead (S.device source.old) (S.device source.new)) }
 {
     let mut text = Vec::new(alloc);
     let mut chunk = [0u8; CHUNK];
@@ -59,11 +49,7 @@ pub fn read_text<S: Source>(
 
 /// Writes a text, or if the device fails a prefix of it.
 pub fn write_text<W: Sink>(sink: &mut W, text: &[u8]) -> Result<(), DeviceFailed>
-    requires { W.failures sink.old < 2 ^ 62 }
-    ensures done { OnOk result (Appends (W.written sink.old) (W.written sink.new) text.now) }
-    ensures begun { OnErr result (AppendsBeginning (W.written sink.old) (W.written sink.new) text.now) }
-    ensures no_failure { OnOk result (W.failures sink.new ≡ W.failures sink.old) }
-    ensures blamed { OnErr result (W.failures sink.old < W.failures sink.new) }
+    ensures { IsWrite (W.device sink.old) (W.device sink.new) text.now result }
 {
     let mut from = 0;
     while from < text.len() {

@@ -4,8 +4,7 @@ ghost use Rattle.std.specs.Prelude.{◌≡◌, nat_lt, true, ◌<◌, ◌≤◌,
 ghost use Rattle.std.specs.List.{list_all, prefix_len, take_while};
 ghost use Rattle.mh_model.specs.Bytes.{is_text, is_digit, is_letter, is_numeral, is_name, value_after, number, numbers, words};
 ghost use Rattle.mh_model.specs.Forms.{within, u32};
-ghost use Rattle.mh_text.specs.Pieces.{text_shown, words_left};
-ghost use Rattle.mh_text.specs.Plain.{BeginsWithNumberBefore};
+ghost use Rattle.mh_text.specs.{Pieces.{text_shown, words_left}, Plain.BeginsWithNumberBefore};
 ghost use Rattle.mh_text.specs.Words.{BeginsWithNumber, few_numbers};
 
 use crate::pieces::Words;

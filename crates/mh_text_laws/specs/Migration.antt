@@ -1,12 +1,8 @@
 -- Migration makes a legal record with the same entries. The length of what it writes is no premise: under the first rules a legal history within its
 -- limit is migrated to a text within the limit of the second version.
 use Rattle.std.specs.Prelude.{◌≡◌, ℕ, List, length, map}
-use Rattle.mh_model.specs.declared.config.Config.{Config}
-use Rattle.mh_model.specs.declared.config.Rules.TheVariants.{First}
-use Rattle.mh_model.specs.declared.history.Entry.{Entry}
-use Rattle.mh_model.specs.Bytes.{Text}
-use Rattle.mh_model.specs.Script.{Means}
-use Rattle.mh_model.specs.History.{IsLegal}
+use Rattle.mh_model.specs.{declared.config.Config.Config, declared.config.Rules.TheVariants.First}
+use Rattle.mh_model.specs.{declared.history.Entry.Entry, Bytes.Text, Script.Means, History.IsLegal}
 use Rattle.mh_model.specs.HistoryTexts.{history_reading, recorded_text, recorded_reading, IsLegalRecord, IsChecked, IsAudited, migrated, IsMigratedTo}
 use Rattle.mh_model.specs.declared.history.Verdict.TheVariants.{Legal}
 

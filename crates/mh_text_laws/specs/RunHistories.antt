@@ -1,15 +1,10 @@
 -- What a run of a script writes as its history, and under which rules a script is without options.
 use Rattle.std.specs.Prelude.{◌≡◌, ◌≤◌, List, length, map, take}
-use Rattle.mh_model.specs.declared.command.Event.{Event}
-use Rattle.mh_model.specs.declared.config.Config.{Config}
-use Rattle.mh_model.specs.declared.config.Rules.{Rules}
-use Rattle.mh_model.specs.declared.history.Verdict.TheVariants.{Legal}
-use Rattle.mh_model.specs.Bytes.{Text}
-use Rattle.mh_model.specs.HistoryTexts.{IsAudited, recorded_reading}
-use Rattle.mh_model.specs.Limits.{most_entries}
+use Rattle.mh_model.specs.{declared.command.Event.Event, declared.config.Config.Config, declared.config.Rules.Rules}
+use Rattle.mh_model.specs.{declared.history.Verdict.TheVariants.Legal, Bytes.Text}
+use Rattle.mh_model.specs.{HistoryTexts.{IsAudited, recorded_reading}, Limits.most_entries}
 use Rattle.mh_model.specs.Machine.{first_machine, machine_replies}
-use Rattle.mh_model.specs.RunHistories.{history_output, reading_under, recorded_run}
-use Rattle.mh_model.specs.Script.{Meaning, Means}
+use Rattle.mh_model.specs.{RunHistories.{history_output, reading_under, recorded_run}, Script.{Meaning, Means}}
 
 -- A text is the history of a run of these events. It is read as their record, and found legal with as many entries. The replies are the run's
 pub record IsRunHistory (config : Config) (events : List Event) (written : Text) : Type 0 where

@@ -1,15 +1,12 @@
 -- The least of few windows says what each from one on has.
 use Rattle.std.proofs.Common.{◌≡◌, ◌∙◌, ℕ, suc, ◌+◌, ◌-◌, ◌*◌, ◌<◌, ◌≤◌, nat_lt, Bool, true, false, Some, List, [], ◌∷◌, drop, get_or, length, ap, sym, refl, arith}
-use Rattle.std.proofs.lemmas.Bool.Decides.{nat_tests}
-use Rattle.std.proofs.lemmas.List.{drop_all, drop_more}
-use Rattle.std.proofs.lemmas.Nat.{mul-le}
+use Rattle.std.proofs.{lemmas.Bool.Decides.nat_tests, lemmas.List.{drop_all, drop_more}, lemmas.Nat.mul-le}
 use Rattle.std.proofs.Math.Nat.{mod-add-div}
 use Rattle.mh_model.specs.Trace.{Letter, least_mutator}
 use Rattle.mh_report.specs.Windows.{share_of}
-use Rattle.mh_window_laws.specs.Windows.{KeepsShare}
-use Rattle.mh_window_laws.proofs.StretchLemmas.{least_at, no_longer, units_few}
-use Rattle.mh_window_laws.proofs.GrowthLemmas.{grows, shares}
-use Rattle.mh_windows.specs.declared.always.Point.{Point}
+use Rattle.mh_run_laws.specs.Windows.{KeepsShare}
+use Rattle.mh_run_laws.proofs.windows.{StretchLemmas.{least_at, no_longer, units_few}, GrowthLemmas.{grows, shares}}
+use Rattle.mh_windows.specs.declared.always.WindowLeast.{WindowLeast}
 use Rattle.mh_windows.specs.Always.{GoToTheEnd, HasLeast, share_from, share_until}
 
 -- Shares -----------------------------------------------------------------------------------------
@@ -43,7 +40,7 @@ no_share share x least is = rw is (omega arith)
 
 module _ (letters : List Letter) where
   -- between two points
-  between : (point next : Point) → HasLeast letters point → HasLeast letters next → point.window ≤ next.window → (x least : ℕ) → point.window ≤ x → x ≤ next.window → least_mutator x letters ≡ Some least → share_until point next * x ≤ least * 10000
+  between : (point next : WindowLeast) → HasLeast letters point → HasLeast letters next → point.window ≤ next.window → (x least : ℕ) → point.window ≤ x → x ≤ next.window → least_mutator x letters ≡ Some least → share_until point next * x ≤ least * 10000
   between point next one other less x least above below is = by (nat_lt 0 long) refl where
     long : ℕ
     long = next.window - (next.least - point.least)
@@ -63,21 +60,21 @@ module _ (letters : List Letter) where
         let same : share_until point next ≡ share_of 0 long = ap (λ n. share_of n long) nothing in
         no_share (share_until point next) x least (same ∙ none_of long none)
 
-  from_first : (points : List Point) (point : Point) (rest : List Point) → points ≡ point ∷ rest → GoToTheEnd letters points → (x least : ℕ) → point.window ≤ x → least_mutator x letters ≡ Some least → share_from points * x ≤ least * 10000
+  from_first : (points : List WindowLeast) (point : WindowLeast) (rest : List WindowLeast) → points ≡ point ∷ rest → GoToTheEnd letters points → (x least : ℕ) → point.window ≤ x → least_mutator x letters ≡ Some least → share_from points * x ≤ least * 10000
   from_first [] point rest same go x least above is = absurd go
   from_first (first ∷ []) point rest same go x least above is =
       let one : first ≡ point = cc in
-      let window = ap (λ (p : Point). p.window) one in
+      let window = ap (λ (p : WindowLeast). p.window) one in
       let whole : x ≡ first.window = omega (arith, no_longer letters x least is, above, go.1, window) in
       let units : Some least ≡ Some first.least = sym is ∙ ap (λ w. least_mutator w letters) whole ∙ go.0 in
       let least_is : least ≡ first.least = cc in
       rw (whole, least_is) (share_within first.least first.window)
   from_first (first ∷ next ∷ points) point rest same go x least above is =
       let one : first ≡ point = cc in
-      let window = ap (λ (p : Point). p.window) one in
+      let window = ap (λ (p : WindowLeast). p.window) one in
       by (nat_lt x next.window) refl (λ later. from_first (next ∷ points) next points refl go.2 x least later is) (omega (arith, above, window))
     where
-      next_has : (ps : List Point) → GoToTheEnd letters (next ∷ ps) → HasLeast letters next
+      next_has : (ps : List WindowLeast) → GoToTheEnd letters (next ∷ ps) → HasLeast letters next
       next_has [] goes = goes.0
       next_has (p ∷ ps) goes = goes.0
 
@@ -89,27 +86,27 @@ module _ (letters : List Letter) where
           let long : next.window ≤ x = grind (arith, nat_tests) in
           smaller _ (share_from (next ∷ points)) x least (omega arith) (later long)
 
-pub keeps_from : (letters : List Letter) (point : Point) (points : List Point) → GoToTheEnd letters (point ∷ points) → KeepsShare (share_from (point ∷ points)) 10000 point.window letters
+pub keeps_from : (letters : List Letter) (point : WindowLeast) (points : List WindowLeast) → GoToTheEnd letters (point ∷ points) → KeepsShare (share_from (point ∷ points)) 10000 point.window letters
 keeps_from letters point points go window least above is = from_first letters (point ∷ points) point points refl go window least above is
 
 -- The last point -----------------------------------------------------------------------------------
 
 -- the share of the last point
-abbrev pub share_of_last : List Point → ℕ
+abbrev pub share_of_last : List WindowLeast → ℕ
 share_of_last [] = 0
 share_of_last (point ∷ []) = share_of point.least point.window
 share_of_last (point ∷ next ∷ points) = share_of_last (next ∷ points)
 
-pub some_point : (letters : List Letter) (points : List Point) → GoToTheEnd letters points → 0 < length points
+pub some_point : (letters : List Letter) (points : List WindowLeast) → GoToTheEnd letters points → 0 < length points
 some_point letters [] go = absurd go
 some_point letters (point ∷ points) go = omega arith
 
-pub from_within : (points : List Point) → share_from points ≤ share_of_last points
+pub from_within : (points : List WindowLeast) → share_from points ≤ share_of_last points
 from_within [] = omega arith
 from_within (point ∷ []) = omega arith
 from_within (point ∷ next ∷ points) = let less = from_within (next ∷ points) in omega (arith, less)
 
-pub last_at : (points : List Point) (d : Point) → 0 < length points → share_of (get_or points (length points - 1) d).least (get_or points (length points - 1) d).window ≡ share_of_last points
+pub last_at : (points : List WindowLeast) (d : WindowLeast) → 0 < length points → share_of (get_or points (length points - 1) d).least (get_or points (length points - 1) d).window ≡ share_of_last points
 last_at [] d some = absurd (omega (arith, some))
 last_at (point ∷ []) d some = refl
 last_at (point ∷ next ∷ points) d some =
@@ -117,20 +114,20 @@ last_at (point ∷ next ∷ points) d some =
     rw later (last_at (next ∷ points) d (omega arith))
 
 -- two points that stand next
-pub two_at : (points : List Point) (i : ℕ) (d : Point) → i + 1 < length points → (rest : List Point) × (drop i points ≡ get_or points i d ∷ get_or points (i + 1) d ∷ rest) × (drop (i + 1) points ≡ get_or points (i + 1) d ∷ rest)
+pub two_at : (points : List WindowLeast) (i : ℕ) (d : WindowLeast) → i + 1 < length points → (rest : List WindowLeast) × (drop i points ≡ get_or points i d ∷ get_or points (i + 1) d ∷ rest) × (drop (i + 1) points ≡ get_or points (i + 1) d ∷ rest)
 two_at points i d inside =
     let here = drop_more points i d (omega (arith, inside)) in
     let there = drop_more points (i + 1) d inside in
     (drop (i + 1 + 1) points, here ∙ ap (λ ps. get_or points i d ∷ ps) there, there)
 
-pub one_left : (points : List Point) (i : ℕ) (d : Point) → i < length points → length points ≤ i + 1 → drop i points ≡ get_or points i d ∷ []
+pub one_left : (points : List WindowLeast) (i : ℕ) (d : WindowLeast) → i < length points → length points ≤ i + 1 → drop i points ≡ get_or points i d ∷ []
 one_left points i d inside last = drop_more points i d inside ∙ ap (λ ps. get_or points i d ∷ ps) (drop_all (i + 1) points last)
 
 -- where both are of longer and longer windows, the shares can be had
-module _ (letters : List Letter) (point next : Point) (rest : List Point) (go : GoToTheEnd letters (point ∷ next ∷ rest)) where
+module _ (letters : List Letter) (point next : WindowLeast) (rest : List WindowLeast) (go : GoToTheEnd letters (point ∷ next ∷ rest)) where
   next_least : HasLeast letters next
   next_least = by rest go.2 where
-    by : (rest : List Point) → GoToTheEnd letters (next ∷ rest) → HasLeast letters next
+    by : (rest : List WindowLeast) → GoToTheEnd letters (next ∷ rest) → HasLeast letters next
     by [] goes = goes.0
     by (p ∷ ps) goes = goes.0
 

@@ -1,16 +1,12 @@
 -- Pauses are counted as they end, and a percentile of their lengths is one of them.
 use Rattle.std.proofs.Common.{◌≡◌, ◌∙◌, ◌⊎◌, inl, inr, ℕ, zero, suc, ◌+◌, ◌-◌, ◌*◌, ◌<◌, ◌≤◌, nat_le, nat_lt, ◌==◌, cond, Bool, true, false, List, [], ◌∷◌, ◌++◌, drop, length, replicate, take, ap, append-nil, drop-drop, drop_at, sym, refl, subst, arith}
+use Rattle.std.proofs.{lemmas.Bool.Decides.nat_tests, lemmas.List.{length-append, length-replicate, take_at}}
+use Rattle.std.proofs.{lemmas.List.Sums.{sum_by-append, sum_by-cons}, lemmas.Nat.mul-le}
 use Rattle.std.specs.List.{Contains}
-use Rattle.std.proofs.lemmas.Bool.Decides.{nat_tests}
-use Rattle.std.proofs.lemmas.List.{length-append, length-replicate, take_at}
-use Rattle.std.proofs.lemmas.List.Sums.{sum_by-append, sum_by-cons}
-use Rattle.std.proofs.lemmas.Nat.{mul-le}
 use Rattle.mh_model.specs.Trace.{Letter, M, C, mutator_count}
 use Rattle.mh_report.specs.Slides.{alike, passings, passings_of}
-use Rattle.mh_window_laws.specs.Windows.{units_in}
-use Rattle.mh_windows.specs.declared.pause.Pause.{Pause}
-use Rattle.mh_windows.specs.declared.pauses.Tally.{Tally}
-use Rattle.mh_windows.specs.Pauses.{IsLongest}
+use Rattle.mh_run_laws.specs.Windows.{units_in}
+use Rattle.mh_windows.specs.{declared.pause.Pause.Pause, declared.pauses.PauseCount.PauseCount, Pauses.IsLongest}
 use Rattle.mh_windows.specs.Lengths.{AreInTurn, CountState, CountsOn, CoversPart, IsPercentile, letters_left, pause_of, pauses_after, pauses_of, within}
 
 -- Counting ---------------------------------------------------------------------------------------
@@ -49,7 +45,7 @@ counts_collector s n enters = record {
   same rest = sym (more_here n s.here rest) ∙ ap (λ letters. pauses_after s.here (letters ++ rest)) (sym (left_alike n C enters))
 
 -- the pause that ends is counted
-pub counts_mutator : (s : CountState) (n : ℕ) (enters : Letter) (tally : Tally) → 0 < n → tally.pauses ≡ s.tally.pauses + length (pause_of s.here) → tally.within ≡ s.tally.within + within s.bound (pause_of s.here)
+pub counts_mutator : (s : CountState) (n : ℕ) (enters : Letter) (tally : PauseCount) → 0 < n → tally.pauses ≡ s.tally.pauses + length (pause_of s.here) → tally.within ≡ s.tally.within + within s.bound (pause_of s.here)
     → CountsOn s (alike n M enters) (record { bound = s.bound; here = 0; tally = tally; left = s.left - n })
 counts_mutator s zero enters tally some pauses within_bound = absurd (omega (arith, some))
 counts_mutator s (suc n) enters tally some pauses within_bound = record {

@@ -1,12 +1,10 @@
 -- A stretch that slides on finds the lowest place of its length.
 use Rattle.std.proofs.Common.{◌≡◌, ◌∙◌, ℕ, zero, suc, ◌+◌, ◌-◌, ◌<◌, ◌≤◌, nat_lt, Bool, true, false, if◌then◌else◌, Some, List, [], ◌∷◌, drop, length, ap, sym, refl, subst, arith}
-use Rattle.std.proofs.lemmas.Bool.Decides.{nat_tests}
-use Rattle.std.proofs.lemmas.List.{length-drop}
+use Rattle.std.proofs.{lemmas.Bool.Decides.nat_tests, lemmas.List.length-drop}
 use Rattle.mh_model.specs.Trace.{Letter, M, C, least_mutator}
-use Rattle.mh_report.specs.Slides.{Passing, alike, passings, passings_of}
-use Rattle.mh_report.specs.Walk.{mutator_units}
-use Rattle.mh_window_laws.specs.Windows.{before, units_in}
-use Rattle.mh_window_laws.proofs.StretchLemmas.{stretches_have_least, units_between}
+use Rattle.mh_report.specs.{Slides.{Passing, alike, passings, passings_of}, Walk.mutator_units}
+use Rattle.mh_run_laws.specs.Windows.{before, units_in}
+use Rattle.mh_run_laws.proofs.windows.StretchLemmas.{stretches_have_least, units_between}
 use Rattle.mh_windows.specs.Lowest.{IsLowest, LowestState, first_lowest, here, slid_on, slid_over}
 
 -- Steps alike --------------------------------------------------------------------------------------

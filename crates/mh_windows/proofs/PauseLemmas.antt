@@ -1,12 +1,10 @@
 -- What goes over a trace meets its longest pause.
 use Rattle.std.proofs.Common.{◌≡◌, ◌∙◌, ◌⊎◌, inl, inr, ℕ, zero, suc, ◌+◌, ◌-◌, ◌<◌, ◌≤◌, nat_lt, Bool, true, false, List, [], drop, length, ap, sym, refl, subst, append-nil, arith}
-use Rattle.std.proofs.lemmas.Bool.Decides.{nat_tests}
-use Rattle.std.proofs.lemmas.List.{length-drop, length-replicate}
+use Rattle.std.proofs.{lemmas.Bool.Decides.nat_tests, lemmas.List.{length-drop, length-replicate}}
 use Rattle.mh_model.specs.Trace.{Letter, M, C}
-use Rattle.mh_report.specs.Slides.{Passing, alike, passings, passings_of}
-use Rattle.mh_report.specs.Walk.{mutator_units}
-use Rattle.mh_window_laws.specs.Windows.{before, units_in}
-use Rattle.mh_window_laws.proofs.StretchLemmas.{units_between}
+use Rattle.mh_report.specs.{Slides.{Passing, alike, passings, passings_of}, Walk.mutator_units}
+use Rattle.mh_run_laws.specs.Windows.{before, units_in}
+use Rattle.mh_run_laws.proofs.windows.StretchLemmas.{units_between}
 use Rattle.mh_windows.specs.Pauses.{Goes, HasGone, IsLongest, PauseState, StandsNext, here_after, longer_of}
 use Rattle.mh_windows.proofs.ShareLemmas.{enough, leave_alike, passings_long}
 

@@ -1,16 +1,12 @@
 -- A stretch that slides on finds whether each that is as long or longer has its share.
 use Rattle.std.proofs.Common.{◌≡◌, ◌∙◌, ◌⊎◌, inl, inr, ℕ, zero, suc, ◌+◌, ◌-◌, ◌*◌, ◌<◌, ◌≤◌, nat_lt, Bool, true, false, Option, Some, None, List, [], ◌∷◌, ◌++◌, drop, length, take, ap, sym, refl, subst, append-nil, arith}
+use Rattle.std.proofs.{lemmas.Bool.Decides.nat_tests, lemmas.List.{length-drop, length-replicate}, lemmas.Nat.mul-le}
 use Rattle.std.specs.Prelude.{IfNone, IfSome, MatchOption, IsSome, is_some}
-use Rattle.std.proofs.lemmas.Bool.Decides.{nat_tests}
-use Rattle.std.proofs.lemmas.List.{length-drop, length-replicate}
-use Rattle.std.proofs.lemmas.Nat.{mul-le}
 use Rattle.mh_model.specs.Trace.{Letter, M, C, mutator_count}
-use Rattle.mh_report.specs.Slides.{Passing, alike, passings, passings_of}
-use Rattle.mh_report.specs.Walk.{mutator_units}
-use Rattle.mh_window_laws.specs.Windows.{KeepsShare, before, units_in}
-use Rattle.mh_window_laws.proofs.StretchLemmas.{least_at, no_longer, units_between}
-use Rattle.mh_windows.specs.declared.share.Place.{Place}
-use Rattle.mh_windows.specs.declared.share.Stretch.{Stretch}
+use Rattle.mh_report.specs.{Slides.{Passing, alike, passings, passings_of}, Walk.mutator_units}
+use Rattle.mh_run_laws.specs.Windows.{KeepsShare, before, units_in}
+use Rattle.mh_run_laws.proofs.windows.StretchLemmas.{least_at, no_longer, units_between}
+use Rattle.mh_windows.specs.{declared.share.Place.Place, declared.share.Stretch.Stretch}
 use Rattle.mh_windows.specs.Shares.{HasFound, IsNext, IsPlace, IsShort, KeepsBetween, ShareState, Slides}
 
 -- Letters alike ------------------------------------------------------------------------------------

@@ -2,26 +2,25 @@
 use Rattle.std.specs.Prelude.{◌≡◌, ℕ, ◌-◌, ◌<◌, ◌≤◌, min, Some, List, [], ◌∷◌, length}
 use Rattle.mh_model.specs.Trace.{Letter, floor, least_mutator}
 use Rattle.mh_report.specs.Windows.{share_of}
-use Rattle.mh_windows.specs.declared.always.Point.{Point}
-use Rattle.mh_windows.specs.declared.floor.BrokenFloor.{BrokenFloor}
+use Rattle.mh_windows.specs.{declared.always.WindowLeast.WindowLeast, declared.floor.BrokenFloor.BrokenFloor}
 use Rattle.mh_windows.specs.Lowest.{IsLowest}
 
 -- a point has the least of its window
-abbrev pub HasLeast : List Letter → Point → Type 0
+abbrev pub HasLeast : List Letter → WindowLeast → Type 0
 HasLeast letters point = least_mutator point.window letters ≡ Some point.least
 
 -- the points are those of longer and longer windows, the last of which is the whole trace
-abbrev pub GoToTheEnd : List Letter → List Point → Type 0
+abbrev pub GoToTheEnd : List Letter → List WindowLeast → Type 0
 GoToTheEnd letters [] = ⊥
 GoToTheEnd letters (point ∷ []) = HasLeast letters point × (point.window ≡ length letters)
 GoToTheEnd letters (point ∷ next ∷ points) = HasLeast letters point × (point.window ≤ next.window) × GoToTheEnd letters (next ∷ points)
 
 -- the share, in parts of ten thousand, that each window from one point to the next has: at worst it is as long as it may be with no more units than the first
-abbrev pub share_until : Point → Point → ℕ
+abbrev pub share_until : WindowLeast → WindowLeast → ℕ
 share_until point next = share_of point.least (next.window - (next.least - point.least))
 
 -- the share that each window has from the first of these points on
-abbrev pub share_from : List Point → ℕ
+abbrev pub share_from : List WindowLeast → ℕ
 share_from [] = 0
 share_from (point ∷ []) = share_of point.least point.window
 share_from (point ∷ next ∷ points) = min (share_until point next) (share_from (next ∷ points))

@@ -1,12 +1,10 @@
 -- The pauses of a trace by their lengths, and percentiles of these.
-use Rattle.std.proofs.Common.{◌∙◌, ap, append_assoc, sym, refl}
-use Rattle.std.proofs.lemmas.List.{map-append}
+use Rattle.std.proofs.{Common.{◌∙◌, ap, append_assoc, sym, refl}, lemmas.List.map-append}
 use Rattle.std.specs.Prelude.{◌≡◌, ℕ, zero, suc, ◌+◌, ◌*◌, ◌<◌, ◌≤◌, nat_le, count_by, Option, MatchOption, List, [], ◌∷◌, ◌++◌, length, map, replicate}
 use Rattle.std.specs.List.{Contains}
 use Rattle.mh_model.specs.Trace.{Letter, M, C}
 use Rattle.mh_report.specs.Slides.{Passing}
-use Rattle.mh_windows.specs.declared.pauses.PauseCounts.{PauseCounts}
-use Rattle.mh_windows.specs.declared.pauses.Tally.{Tally}
+use Rattle.mh_windows.specs.declared.pauses.{PauseCounts.PauseCounts, PauseCount.PauseCount}
 
 -- so many units of the collector in a row are a pause, if there are any
 abbrev pub pause_of : ℕ → List ℕ
@@ -63,7 +61,7 @@ pub record AreCounts (letters : List Letter) (counts : PauseCounts) : Type 0 whe
 pub record CountState : Type 0 where
   pub bound : ℕ
   pub here : ℕ
-  pub tally : Tally
+  pub tally : PauseCount
   pub left : ℕ
 
 -- the letters that leave

@@ -2,9 +2,8 @@
 use Rattle.std.proofs.Common.{◌∙◌, ap}
 use Rattle.std.specs.Prelude.{◌≡◌, ℕ, suc, ◌+◌, ◌-◌, ◌<◌, ◌≤◌, nat_lt, if◌then◌else◌, List, [], ◌∷◌, ◌++◌, length, take}
 use Rattle.mh_model.specs.Trace.{Letter, mutator_count}
-use Rattle.mh_report.specs.Slides.{Passing}
-use Rattle.mh_report.specs.Walk.{mutator_units}
-use Rattle.mh_window_laws.specs.Windows.{units_in}
+use Rattle.mh_report.specs.{Slides.Passing, Walk.mutator_units}
+use Rattle.mh_run_laws.specs.Windows.{units_in}
 
 -- so many letters are before a stretch, and so many units of the mutator are in it; the fewest that one has had, after so many letters; and how many letters are still to enter
 pub record LowestState : Type 0 where

@@ -3,8 +3,7 @@ use Rattle.std.proofs.Common.{◌∙◌, List, [], ◌++◌, drop, length, ap, a
 use Rattle.std.proofs.lemmas.List.{length-append}
 use Rattle.mh_model.specs.Trace.{Letter}
 use Rattle.mh_report.specs.Slides.{Passing, passings}
-use Rattle.mh_windows.specs.Pauses.{Goes, PauseState, StandsNext}
-use Rattle.mh_windows.specs.ShareRules.{passings_after}
+use Rattle.mh_windows.specs.{Pauses.{Goes, PauseState, StandsNext}, ShareRules.passings_after}
 
 pub pauses_still : (s : PauseState) → Goes s [] s
 pauses_still s = record { place = omega arith; goes = λ letters next gone. gone }

@@ -2,7 +2,7 @@
 use Rattle.std.specs.Prelude.{◌≡◌, ℕ, zero, suc, ◌+◌, ◌-◌, ◌<◌, ◌≤◌, nat_lt, if◌then◌else◌, List, ◌++◌, drop, length}
 use Rattle.mh_model.specs.Trace.{Letter, M, C}
 use Rattle.mh_report.specs.Slides.{Passing, passings}
-use Rattle.mh_window_laws.specs.Windows.{units_in}
+use Rattle.mh_run_laws.specs.Windows.{units_in}
 use Rattle.mh_windows.specs.declared.pause.Pause.{Pause}
 
 -- no letter of the mutator is in the stretch, and each that is longer or as long and sooner has one

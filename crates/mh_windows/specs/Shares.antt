@@ -2,9 +2,8 @@
 use Rattle.std.specs.Prelude.{◌≡◌, ℕ, ◌+◌, ◌-◌, ◌*◌, ◌<◌, ◌≤◌, Option, MatchOption, List, ◌++◌, drop, length}
 use Rattle.mh_model.specs.Trace.{Letter}
 use Rattle.mh_report.specs.Slides.{Passing, passings}
-use Rattle.mh_window_laws.specs.Windows.{before, units_in}
-use Rattle.mh_windows.specs.declared.share.Place.{Place}
-use Rattle.mh_windows.specs.declared.share.Stretch.{Stretch}
+use Rattle.mh_run_laws.specs.Windows.{before, units_in}
+use Rattle.mh_windows.specs.declared.share.{Place.Place, Stretch.Stretch}
 
 -- the stretch is so long at least, and so many parts of a hundred of it are more than it has of the mutator
 pub record IsShort (part from : ℕ) (letters : List Letter) (stretch : Stretch) : Type 0 where

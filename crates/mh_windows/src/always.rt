@@ -4,21 +4,21 @@
 //! follows from the units of both, so a table says something of all windows.
 ghost use Rattle.std.specs.Prelude.{◌≡◌, ◌<◌, ◌≤◌, ◌-◌, ◌∷◌, [], List, length};
 ghost use Rattle.mh_model.specs.Trace.{Letter};
-ghost use Rattle.mh_window_laws.specs.Windows.{KeepsShare};
+ghost use Rattle.mh_run_laws.specs.Windows.{KeepsShare};
 ghost use Rattle.mh_windows.specs.Always.{GoToTheEnd, share_from, share_until};
-ghost use Rattle.mh_windows.specs.declared.always.Point.{Point};
+ghost use Rattle.mh_windows.specs.declared.always.WindowLeast.{WindowLeast};
 
 use mh_report::windows::share;
 
 /// The least of one window.
 #[derive(Clone, Copy, Debug, PartialEq, Eq)]
-pub struct Point {
+pub struct WindowLeast {
     pub window: u64,
     pub least: u64,
 }
 
 /// The share that each window from one point to the next has, in parts of ten thousand.
-fn share_until(point: Point, next: Point) -> u128
+fn share_until(point: WindowLeast, next: WindowLeast) -> u128
     requires more { point.least ≤ next.least }
     requires fits { next.least - point.least ≤ next.window }
     ensures { result ≡ share_until point next }
@@ -27,10 +27,10 @@ fn share_until(point: Point, next: Point) -> u128
 }
 
 /// The share that each window has from the first of these points on, in parts of ten thousand.
-pub fn share_from(points: &[Point]) -> u128
+pub fn share_from(points: &[WindowLeast]) -> u128
     requires { (letters : List Letter) × GoToTheEnd letters points.now }
     ensures share { result ≡ share_from points.now }
-    ensures keeps { (letters : List Letter) (point : Point) (rest : List Point) → points.now ≡ point ∷ rest → GoToTheEnd letters points.now → KeepsShare result 10000 point.window letters }
+    ensures keeps { (letters : List Letter) (point : WindowLeast) (rest : List WindowLeast) → points.now ≡ point ∷ rest → GoToTheEnd letters points.now → KeepsShare result 10000 point.window letters }
 {
     let last = points[points.len() - 1];
     let mut kept = share(last.least, last.window);

@@ -1,7 +1,7 @@
 //! Whether each window has its floor: one window decides on all.
 ghost use Rattle.std.specs.Prelude.{◌≡◌, ◌+◌, ◌<◌, length, IfSome, IfNone};
 ghost use Rattle.mh_model.specs.declared.birth.TheConstants.{LIFE};
-ghost use Rattle.mh_window_laws.specs.Windows.{KeepsFloor};
+ghost use Rattle.mh_run_laws.specs.Windows.{KeepsFloor};
 ghost use Rattle.mh_windows.specs.Always.{IsBroken};
 
 use crate::lowest::lowest_of;

@@ -1,7 +1,6 @@
 //! Where in a trace the stretches of one length have the fewest units of the mutator.
 ghost use Rattle.std.specs.Prelude.{◌≡◌, ◌<◌, ◌≤◌, ◌^◌, length, IfSome, IfNone, Some};
-ghost use Rattle.mh_model.specs.declared.birth.TheConstants.{LIFE};
-ghost use Rattle.mh_model.specs.Trace.{least_mutator};
+ghost use Rattle.mh_model.specs.{declared.birth.TheConstants.LIFE, Trace.least_mutator};
 ghost use Rattle.mh_windows.specs.Lowest.{IsLowest, LowestState, first_lowest, here, slid_over};
 
 use mh_report::segment::{Segment, Unit};

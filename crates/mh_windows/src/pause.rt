@@ -62,8 +62,7 @@ impl Model for Going {
 }
 
 impl Slider for Going {
-    ghost use Rattle.mh_windows.specs.Pauses.{Goes};
-    ghost use Rattle.mh_windows.specs.PauseRules.{pauses_onward, pauses_still};
+    ghost use Rattle.mh_windows.specs.{Pauses.Goes, PauseRules.{pauses_onward, pauses_still}};
 
     ghost slides = { Goes };
 

@@ -24,14 +24,14 @@ pub struct PauseCounts {
 
 /// So many pauses, and how many of them are within a bound.
 #[derive(Clone, Copy)]
-struct Tally {
+struct PauseCount {
     pauses: u64,
     within: u64,
 }
 
-impl Tally {
+impl PauseCount {
     /// With one pause more, if it has a unit.
-    fn with_pause(self, units: u64, bound: u64) -> Tally
+    fn with_pause(self, units: u64, bound: u64) -> PauseCount
         requires fits { self.pauses + units < 2 ^ 62 }
         requires few { self.within ≤ self.pauses }
         ensures pauses { result.pauses ≡ self.pauses + length (pause_of units) }
@@ -40,7 +40,7 @@ impl Tally {
         if units == 0 {
             return self;
         }
-        Tally {
+        PauseCount {
             pauses: self.pauses + 1,
             within: self.within + u64::from(units <= bound),
         }
@@ -60,7 +60,7 @@ impl Tally {
 struct Counting {
     bound: u64,
     here: u64,
-    tally: Tally,
+    tally: PauseCount,
     left: u64,
 }
 
@@ -100,7 +100,7 @@ impl Slider for Counting {
 }
 
 /// Counts the pauses, and those of so many units at most.
-fn tally_of(trace: &Trace, bound: u64) -> Tally
+fn tally_of(trace: &Trace, bound: u64) -> PauseCount
     requires { length trace.now.trace.letters < LIFE }
     ensures pauses { result.pauses ≡ length (pauses_of trace.now.trace.letters) }
     ensures within { result.within ≡ within bound (pauses_of trace.now.trace.letters) }
@@ -108,7 +108,7 @@ fn tally_of(trace: &Trace, bound: u64) -> Tally
     let mut counting = Counting {
         bound,
         here: 0,
-        tally: Tally {
+        tally: PauseCount {
             pauses: 0,
             within: 0,
         },

@@ -4,9 +4,8 @@
 //! comparison at each end of letters alike decides on all stretches that end there.
 ghost use Rattle.std.specs.Prelude.{◌≡◌, ◌+◌, ◌*◌, ◌<◌, ◌≤◌, ◌^◌, ◌⊎◌, nat_lt, length, IfSome, IfNone, MatchOption};
 ghost use Rattle.mh_model.specs.declared.birth.TheConstants.{LIFE};
-ghost use Rattle.mh_report.specs.Segments.{letter_of};
-ghost use Rattle.mh_report.specs.Walk.{mutator_units};
-ghost use Rattle.mh_window_laws.specs.Windows.{KeepsShare};
+ghost use Rattle.mh_report.specs.{Segments.letter_of, Walk.mutator_units};
+ghost use Rattle.mh_run_laws.specs.Windows.{KeepsShare};
 ghost use Rattle.mh_windows.specs.Shares.{IsShort};
 
 use mh_report::segment::{Segment, Unit};
@@ -107,8 +106,7 @@ impl Model for Sharing {
 }
 
 impl Slider for Sharing {
-    ghost use Rattle.mh_windows.specs.Shares.{Slides};
-    ghost use Rattle.mh_windows.specs.ShareRules.{shares_onward, shares_still};
+    ghost use Rattle.mh_windows.specs.{Shares.Slides, ShareRules.{shares_onward, shares_still}};
 
     ghost slides = { Slides };
 

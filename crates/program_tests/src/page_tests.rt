@@ -1,9 +1,9 @@
 use crate::cases::{Case, NONE};
 use crate::trial::{Outcome, SOUND_DEVICES};
 use crate::trouble::{Way, trouble_each_write};
-use mh_program::mh_show::controls::CONTROLS;
-use mh_program::mh_show::drawing::DRAWING;
-use mh_program::mh_show::page::HEAD;
+use mh_tell_show::controls::CONTROLS;
+use mh_tell_show::drawing::DRAWING;
+use mh_tell_show::page::HEAD;
 use std::alloc::{AllocError, Global};
 use std::io::ErrorKind;
 use std::test::Fail;

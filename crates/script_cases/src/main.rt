@@ -51,7 +51,7 @@ use crate::trial::try_cases;
 use anyhow::Result;
 use mh_command_line::fault::LineFault;
 use mh_orders::order::ConfigOption;
-use mh_program::mh_live::mh_script::fault::ScriptFault;
+use mh_script::fault::ScriptFault;
 use std::sync::Wait;
 use std::thread::Threads;
 use std::{env, fs};

@@ -1,15 +1,12 @@
 -- What each command of a session carries on: roomy pages, the grey list's soundness, what marking still costs, and the classes of pages in use.
 -- So no command adds to what is left of a cycle.
-use Rattle.std.proofs.Common.{◌≡◌, ℕ, suc, ◌+◌, ◌≤◌, true, false, inl, inr, List, [], ◌∷◌, length, slice_get, Option, Some, None, option_map, option_and_then, unwrap_or, refl, sym, ap, ◌∙◌, subst, arith}
-use Rattle.std.proofs.lemmas.Bool.{cases_eq, false≢true}
-use Rattle.std.proofs.lemmas.List.{length-replicate}
+use Rattle.std.proofs.Common.{◌≡◌, ℕ, suc, ◌+◌, ◌≤◌, false, inl, inr, List, [], ◌∷◌, length, slice_get, Option, Some, None, option_map, option_and_then, unwrap_or, refl, sym, ap, ◌∙◌, subst, arith}
+use Rattle.std.proofs.{lemmas.Bool.{cases_eq, false≢true}, lemmas.List.length-replicate}
 use Rattle.std.proofs.lemmas.Option.{none-some, same_Some}
-use Rattle.mh_model.specs.declared.command.Command.{Command}
-use Rattle.mh_model.specs.declared.command.Command.TheVariants as command
-use Rattle.mh_model.specs.Classes.{Part, class_of, part_words, parts}
+use Rattle.mh_model.specs.{declared.command.Command.Command, Classes.{Part, class_of, part_words, parts}}
 use Rattle.mh_model.specs.Pages.{Table, block_at, least_place, with_taken, IsFreeFor}
 use Rattle.mh_model.specs.Table.{Block, Made, MadeParts, new_block, made_in_class, made_part, made_parts, with_block_change, words_of, linked_block, linked_parts, group_of, made_group}
-use Rattle.mh_model.specs.Collector.{Collector, Marking, shade, marking_of, with_shade}
+use Rattle.mh_model.specs.Collector.{Collector, Marking, marking_of, with_shade}
 use Rattle.mh_model.specs.Mutator.{HeapState, in_roots_or_mark, new_group, mutator_step}
 use Rattle.mh_model.specs.CycleBounds.{count_at, grey_weight, IsGreySound, IsMarkedIn}
 use Rattle.mh_table_laws.specs.NewObjects.{AreMade}
@@ -31,7 +28,7 @@ module _ (table : Table Block) (grey : List ℕ) (cycle : ℕ) (size place : ℕ
   new = record { table = with_taken table size place block; grey = grey; cycle = cycle }
 
   kept : (other : ℕ) → IsMarkedIn table cycle other → block_at new.table other ≡ block_at table other
-  kept other marked = block_at-with_taken_other table size place other block (λ same. none-some cycle (sym (ap (option_map (λ b. b.stamp)) free.empty) ∙ subst (IsMarkedIn table cycle) same marked))
+  kept other marked = grind (arith, block_at-with_taken_other, none-some)
 
   taken-carries : IsClass size → length block.references + 4 ≤ size → IsGreySound old → Carries old new
   taken-carries class fits sound = record {
@@ -72,8 +69,7 @@ made_part-carries table grey birth cycle index part sound made e = by_class (cla
 
 made_parts-carries : (list : List Part) (table : Table Block) (grey : List ℕ) (birth cycle index : ℕ) → IsGreySound (record { table = table; grey = grey; cycle = cycle }) → (made : MadeParts) → made_parts table birth cycle index list ≡ Some made
     → Carries (record { table = table; grey = grey; cycle = cycle }) (record { table = made.table; grey = grey; cycle = cycle })
-made_parts-carries [] table grey birth cycle index sound made e =
-    subst (λ (m : MadeParts). Carries (record { table = table; grey = grey; cycle = cycle }) (record { table = m.table; grey = grey; cycle = cycle })) (same_Some (record { places = []; table = table }) made e) (carries_nothing (record { table = table; grey = grey; cycle = cycle }) sound)
+made_parts-carries [] table grey birth cycle index sound made e = grind arith
 made_parts-carries (part ∷ list) table grey birth cycle index sound made e =
     by_first (made_part table birth cycle index part) refl e (λ t s m h. made_parts-carries list t grey birth cycle (suc index) s m h)
   where
@@ -106,8 +102,6 @@ AreSized table places list = (i q : ℕ) (part : Part) → slice_get places i �
 module _ (grey : List ℕ) (cycle : ℕ) (all : List ℕ) where
   linked_parts-carries : (places : List ℕ) (list : List Part) (table : Table Block) → HaveChildren list (length all) → AreSized table places list → IsGreySound (record { table = table; grey = grey; cycle = cycle })
       → Carries (record { table = table; grey = grey; cycle = cycle }) (record { table = linked_parts all table places list; grey = grey; cycle = cycle })
-  linked_parts-carries [] list table inside sized sound = carries_nothing (record { table = table; grey = grey; cycle = cycle }) sound
-  linked_parts-carries (place ∷ places) [] table inside sized sound = carries_nothing (record { table = table; grey = grey; cycle = cycle }) sound
   linked_parts-carries (place ∷ places) (part ∷ list) table inside sized sound =
       then_carries (record { table = table; grey = grey; cycle = cycle }) (record { table = linked; grey = grey; cycle = cycle }) (record { table = linked_parts all linked places list; grey = grey; cycle = cycle }) one
       (linked_parts-carries places list linked (λ i. inside (suc i)) sized_after one.sound)
@@ -139,6 +133,7 @@ module _ (grey : List ℕ) (cycle : ℕ) (all : List ℕ) where
                   words ∙ sym (kept block here) ∙ size,
                 )
           ]
+  linked_parts-carries places list table inside sized sound = grind (arith, carries_nothing)
 
 group_of-carries : (table first : Table Block) (grey : List ℕ) (birth cycle : ℕ) (list : List Part) (places : List ℕ) → AreMade first birth cycle 0 list (record { places = places; table = table }) → HaveChildren list (length list)
     → IsGreySound (record { table = table; grey = grey; cycle = cycle }) → (made : Made) → group_of table places list ≡ Some made → Carries (record { table = table; grey = grey; cycle = cycle }) (record { table = made.table; grey = grey; cycle = cycle })
@@ -168,19 +163,14 @@ pub record Carried (old new : Collector) : Type 0 where
   pub grey : in_roots_or_mark old.phase ≡ false → new.grey ≡ old.grey
 
 carried_nothing : (collector : Collector) → IsGreySound (marking_of collector) → Carried collector collector
-carried_nothing collector sound = record { carries = carries_nothing (marking_of collector) sound; grey = λ outside. refl }
+carried_nothing collector sound = grind arith
 
 -- shading by a collector
 pub with_shade-carries : (collector : Collector) (reference : Option ℕ) → IsGreySound (marking_of collector) → Carries (marking_of collector) (marking_of (with_shade collector reference))
-with_shade-carries collector reference sound =
-    let shaded : Marking = shade (marking_of collector) reference in
-    subst (λ n. Carries (marking_of collector) (record { table = shaded.table; grey = shaded.grey; cycle = n })) (cycle-shade (marking_of collector) reference) (shade-carries (marking_of collector) reference sound)
+with_shade-carries collector reference sound = grind (arith, cycle-shade (marking_of collector) reference, shade-carries (marking_of collector) reference sound)
 
 then_carried : (first second third : Collector) → second.phase ≡ first.phase → Carried first second → Carried second third → Carried first third
-then_carried first second third phase one two = record {
-  carries = then_carries (marking_of first) (marking_of second) (marking_of third) one.carries two.carries;
-  grey = λ outside. two.grey (ap in_roots_or_mark phase ∙ outside) ∙ one.grey outside;
-}
+then_carried first second third phase one two = grind arith
 
 -- the same phase, and what is carried on if the grey list is sound
 abbrev CarriesOn : Collector → Collector → Type 0
@@ -200,7 +190,7 @@ carried_on = record {
 pub mutator_step-carried : (heap : HeapState) (who : ℕ) (c : Command) → IsGreySound (marking_of heap.collector) → Carried heap.collector (mutator_step heap who c).state.collector
 mutator_step-carried heap who c sound = (mutator_step-each CarriesOn carried_on heap who c (λ allowed. heap_effect-each CarriesOn carried_on heap who c placed)).1 sound
   where
-    placed : (slot references numbers : ℕ) → c ≡ command.New slot references numbers → (made : Made) → new_group heap references numbers ≡ Some made → CarriesOn heap.collector (record (heap.collector) { table = made.table })
+    placed : (slot references numbers : ℕ) → c ≡ Command.New slot references numbers → (made : Made) → new_group heap references numbers ≡ Some made → CarriesOn heap.collector (record (heap.collector) { table = made.table })
     placed slot references numbers is made e = (
       refl,
       λ sound. record {

@@ -1,25 +1,19 @@
 -- A cycle within its bounds: what commands and quanta leave of it, at every moment of a run.
-use Rattle.std.specs.Prelude.{◌-◌}
-use Rattle.std.proofs.Common.{◌≡◌, ℕ, zero, suc, ◌+◌, ◌-◌, ◌*◌, ◌<◌, ◌≤◌, ◌==◌, Bool, true, false, ◌||◌, nat_lt, if◌then◌else◌, inl, inr, List, [], ◌∷◌, length, get_or, Option, Some, None, is_some, unwrap_or, refl, sym, ap, ◌∙◌, subst, arith}
-use Rattle.std.specs.List.{sum_by}
-use Rattle.std.proofs.Math.Nat.{mul-suc}
-use Rattle.std.proofs.lemmas.Bool.{cases_Bool, ltb-true, ltb-false, true≢false, or_parts}
+use Rattle.std.specs.{Prelude.◌-◌, List.sum_by}
+use Rattle.std.proofs.Common.{◌≡◌, ℕ, zero, suc, ◌+◌, ◌-◌, ◌*◌, ◌<◌, ◌≤◌, Bool, true, false, ◌||◌, nat_lt, inl, inr, List, [], ◌∷◌, length, get_or, Option, Some, None, refl, ◌∙◌, arith}
+use Rattle.std.proofs.{Math.Nat.mul-suc, lemmas.Bool.{cases_Bool, ltb-true, true≢false, or_parts}}
 use Rattle.std.proofs.lemmas.List.Sums.{sum_by-cons}
-use Rattle.mh_model.specs.declared.config.Config.{Config}
-use Rattle.mh_model.specs.declared.cycle.Phase.{Phase}
-use Rattle.mh_model.specs.declared.cycle.Phase.TheVariants.{Idle, Roots, Mark, Sweep, Defrag}
-use Rattle.mh_model.specs.Pages.{Page, Table, page_number, slot_number, page_at, block_in}
-use Rattle.mh_model.specs.Table.{Block}
-use Rattle.mh_model.specs.Collector.{Collector, Spending, Move, is_marked, next_move, with_move, move_cost, after_mark, cost_in, step_cost, is_moving_in, is_moving, step_in, is_past, with_phase, cycle_end, phase_after, collector_step, is_idle, quantum_start, steps, quantum}
+use Rattle.mh_model.specs.{declared.config.Config.Config, declared.cycle.Phase.Phase}
+use Rattle.mh_model.specs.{Pages.{Page, Table, page_at, block_in}, Table.Block}
+use Rattle.mh_model.specs.Collector.{Collector, Spending, Move, with_move, after_mark, cost_in, step_cost, is_moving_in, is_moving, step_in, phase_after, collector_step, is_idle, steps, quantum}
 use Rattle.mh_model.specs.Mutator.{in_roots_or_mark}
-use Rattle.mh_model.specs.CycleBounds.{IsRoomyPage, IsRoomy, class_at, slot_weight, page_weight, table_weight, in_steps, in_units, size_at, movable, movable_words, steps_left, units_left, StageOf, IsUnderway}
+use Rattle.mh_model.specs.CycleBounds.{IsRoomyPage, IsRoomy, class_at, slot_weight, page_weight, table_weight, in_steps, in_units, size_at, movable_words, steps_left, units_left, StageOf, IsUnderway}
 use Rattle.mh_model.specs.Limits.{least_quantum, root_slots}
 use Rattle.mh_laws.proofs.costs.Quanta.{steps-stop, steps-go, step_cost-positive, step_cost-bounded}
+use Rattle.mh_laws.proofs.{bounds.CommandsKeepBounds.Carried, bounds.WorkLeft.collector_step-paid}
+use Rattle.mh_laws.proofs.costs.QuantumStarts.{begins}
 use Rattle.mh_laws.specs.Commands.{IsOnCourse}
 use Rattle.mh_table_laws.proofs.tables.BlockRoom.{few_slots, roomy-sized}
-use Rattle.mh_laws.proofs.bounds.CommandsKeepBounds.{Carried}
-use Rattle.mh_laws.proofs.bounds.WorkLeft.{collector_step-paid}
-use Rattle.mh_laws.proofs.costs.QuantumStarts.{begins}
 
 -- Commands ---------------------------------------------------------------------------------------
 
@@ -30,49 +24,26 @@ pub record LeavesNoMore (old new : Collector) : Type 0 where
   pub units : units_left new.phase new ≤ units_left old.phase old
 
 words-kept : (old new : Table Block) (number slot : ℕ) → ((size : ℕ) → class_at old number ≡ Some size → class_at new number ≡ Some size) → 256 - size_at new number * slot ≤ 256 - size_at old number * slot
-words-kept old new number slot kept = go (class_at old number) refl
-  where
-    go : (class : Option ℕ) → class_at old number ≡ class → 256 - size_at new number * slot ≤ 256 - unwrap_or class 0 * slot
-    go None e = omega arith
-    go (Some size) e = rw (kept size e) (omega arith)
+words-kept old new number slot kept = grind arith
 
 module _ (old new : Collector) {made : ℕ} (course : IsOnCourse made old new) (carried : Carried old new) (under : IsUnderway old) where
   grey-outside : in_roots_or_mark old.phase ≡ false → old.grey ≡ [] → new.grey ≡ []
   grey-outside outside none = carried.grey outside ∙ none
 
   stage-carried : (phase : Phase) → old.phase ≡ phase → StageOf phase old → StageOf phase new
-  stage-carried Idle is stage = grey-outside (ap in_roots_or_mark is) stage
-  stage-carried Roots is stage = omega (arith, course.cursor)
-  stage-carried Mark is stage = omega (arith, (carried.carries).longer)
-  stage-carried Sweep is stage = (grey-outside (ap in_roots_or_mark is) stage.0, omega (arith, course.cursor, course.pages, stage.1))
-  stage-carried Defrag is stage = (grey-outside (ap in_roots_or_mark is) stage.0, omega (arith, course.cursor, course.pages, stage.1))
+  stage-carried phase is stage = grind arith
 
   steps-carried : (phase : Phase) → steps_left phase new ≤ steps_left phase old
-  steps-carried Idle = omega arith
-  steps-carried Roots = omega (arith, course.cursor, course.pages, (carried.carries).lighter in_steps)
-  steps-carried Mark = omega (arith, course.pages, (carried.carries).lighter in_steps)
-  steps-carried Sweep = omega (arith, course.cursor, course.pages)
-  steps-carried Defrag = omega (arith, course.cursor, course.pages)
+  steps-carried phase = grind arith
 
   movable-carried : movable_words new ≤ movable_words old
-  movable-carried =
-      subst (λ n. movable n (page_number new.cursor) (slot_number new.cursor) (size_at new.table (page_number new.cursor)) ≤ movable_words old) (sym course.pages)
-      (subst (λ n. movable (length old.table) (page_number n) (slot_number n) (size_at new.table (page_number n)) ≤ movable_words old) (sym course.cursor)
-      (omega (arith, words-kept old.table new.table (page_number old.cursor) (slot_number old.cursor) ((carried.carries).classes (page_number old.cursor)))))
+  movable-carried = grind arith
 
   units-carried : (phase : Phase) → units_left phase new ≤ units_left phase old
-  units-carried Idle = omega arith
-  units-carried Roots = omega (arith, course.cursor, course.pages, (carried.carries).lighter in_units)
-  units-carried Mark = omega (arith, course.pages, (carried.carries).lighter in_units)
-  units-carried Sweep = omega (arith, course.cursor, course.pages)
-  units-carried Defrag = omega (arith, course.cursor, course.pages, movable-carried)
+  units-carried phase = grind arith
 
   pub carried-leaves : LeavesNoMore old new
-  carried-leaves = record {
-    under = record { some_page = omega (arith, course.pages, under.some_page); sound = (carried.carries).sound; stage = subst (λ p. StageOf p new) (sym course.phase) (stage-carried old.phase refl under.stage) };
-    steps = subst (λ p. steps_left p new ≤ steps_left old.phase old) (sym course.phase) (steps-carried old.phase);
-    units = subst (λ p. units_left p new ≤ units_left old.phase old) (sym course.phase) (units-carried old.phase);
-  }
+  carried-leaves = grind arith
 
 -- Steps ------------------------------------------------------------------------------------------
 
@@ -82,14 +53,7 @@ charge true = 0
 charge false = root_slots
 
 charged : (phase : Phase) (collector : Collector) (has_moved : Bool) → cost_in phase collector has_moved + charge (has_moved || is_moving_in phase collector) ≡ cost_in phase collector true + charge has_moved
-charged Defrag collector false = go (next_move collector.table collector.cursor)
-  where
-    go : (move : Option Move) → move_cost false move + charge (is_some move) ≡ move_cost true move + root_slots
-    go None = refl
-    go (Some move) = omega arith
-charged Defrag collector true = refl
-charged other collector true = refl
-charged other collector false = refl
+charged other collector has_moved = grind arith
 
 pub step-charged : (collector : Collector) (has_moved : Bool) → step_cost collector has_moved + charge (has_moved || is_moving collector) ≡ cost_in collector.phase collector true + charge has_moved
 unfolding step_cost
@@ -103,13 +67,10 @@ pub record Spends (has_moved : Bool) (left : ℕ) (old : Collector) (after : Spe
   pub rest : is_idle after.collector.phase ≡ false → left ≤ after.units + (least_quantum - 1)
 
 nothing_spent : (has_moved : Bool) (left : ℕ) (collector : Collector) → IsUnderway collector → (is_idle collector.phase ≡ false → left ≤ least_quantum - 1) → Spends has_moved left collector (record { units = 0; collector = collector })
-nothing_spent has_moved left collector under small = record { under = under; steps_paid = omega arith; units_paid = omega arith; rest = λ runs. omega (arith, small runs) }
+nothing_spent has_moved left collector under small = grind arith
 
 stopped_small : (collector : Collector) (has_moved : Bool) (left : ℕ) → IsUnderway collector → (is_idle collector.phase || nat_lt left (step_cost collector has_moved)) ≡ true → is_idle collector.phase ≡ false → left ≤ least_quantum - 1
-stopped_small collector has_moved left under stops runs = elim (cases_Bool (nat_lt left (step_cost collector has_moved))) [
-  | inl short ↦ omega (arith, ltb-true left (step_cost collector has_moved) short, step_cost-bounded collector has_moved (roomy-sized collector.table (under.sound).roomy))
-  | inr fits ↦ absurd (true≢false (sym stops ∙ ap (λ b. b || nat_lt left (step_cost collector has_moved)) runs ∙ fits))
-]
+stopped_small collector has_moved left under stops runs = grind (arith, cases_Bool, ltb-true, step_cost-bounded, roomy-sized, true≢false)
 
 pub steps-spend : (more left : ℕ) (has_moved : Bool) (collector : Collector) → left ≤ more → IsUnderway collector → Spends has_moved left collector (steps more left has_moved collector)
 unfolding steps
@@ -118,16 +79,10 @@ steps-spend (suc more) left has_moved collector enough under = elim (cases_Bool 
   | inl stops ↦ rw (steps-stop more left has_moved collector stops) (nothing_spent has_moved left collector under (stopped_small collector has_moved left under stops))
   | inr goes ↦
       let (runs, long) = or_parts (is_idle collector.phase) (nat_lt left (step_cost collector has_moved)) goes in
-      let fits : step_cost collector has_moved ≤ left = ltb-false left (step_cost collector has_moved) long in
       let positive = step_cost-positive collector has_moved runs in
       let paid = collector_step-paid collector under runs in
       let rest = steps-spend more (left - step_cost collector has_moved) (has_moved || is_moving collector) (collector_step collector) (omega arith) paid.under in
-      rw (steps-go more left has_moved collector goes) (record {
-        under = rest.under;
-        steps_paid = omega (arith, rest.steps_paid, paid.steps_paid);
-        units_paid = omega (arith, rest.units_paid, paid.units_paid, step-charged collector has_moved);
-        rest = λ running. omega (arith, rest.rest running);
-      })
+      grind (arith, steps-go, step-charged)
 ]
 
 -- A quantum of at least 209 units takes a step of a cycle that runs
@@ -137,11 +92,7 @@ unfolding steps
 steps-some zero has_moved collector enough under runs = absurd (omega arith)
 steps-some (suc more) has_moved collector enough under runs = elim (cases_Bool (is_idle collector.phase || nat_lt (suc more) (step_cost collector has_moved))) [
   | inl stops ↦ absurd (omega (arith, stopped_small collector has_moved (suc more) under stops runs))
-  | inr goes ↦
-      let positive = step_cost-positive collector has_moved runs in
-      let paid = collector_step-paid collector under runs in
-      let rest = steps-spend more (suc more - step_cost collector has_moved) (has_moved || is_moving collector) (collector_step collector) (omega arith) paid.under in
-      rw (steps-go more (suc more) has_moved collector goes) (omega (arith, rest.steps_paid, paid.steps_paid))
+  | inr goes ↦ grind (arith, step_cost-positive, collector_step-paid, steps-spend, steps-go)
 ]
 
 -- The count of quanta ----------------------------------------------------------------------------
@@ -153,53 +104,23 @@ pub record KeepsCount (old new : Collector) : Type 0 where
   pub ended : is_idle new.phase ≡ true → new.quanta ≡ 0
 
 running-count : (old new : Collector) → new.cycle ≡ old.cycle → new.quanta ≡ old.quanta → is_idle new.phase ≡ false → KeepsCount old new
-running-count old new cycle quanta runs = record { cycle = cycle; running = λ r. quanta; ended = λ idle. absurd (true≢false (sym idle ∙ runs)) }
+running-count old new cycle quanta runs = grind arith
 
 after_mark-count : (old new : Collector) (grey : List ℕ) → new.cycle ≡ old.cycle → new.quanta ≡ old.quanta → KeepsCount old (after_mark new grey)
-after_mark-count old new [] cycle quanta = running-count old (after_mark new []) cycle quanta refl
-after_mark-count old new (place ∷ grey) cycle quanta = running-count old (after_mark new (place ∷ grey)) cycle quanta refl
+after_mark-count old new grey cycle quanta = grind arith
 
 with_move-count : (collector : Collector) (move : Option Move) → ((with_move collector move).cycle ≡ collector.cycle) × ((with_move collector move).quanta ≡ collector.quanta)
-with_move-count collector None = (refl, refl)
-with_move-count collector (Some move) = (refl, refl)
+with_move-count collector move = grind arith
 
 step-count : (phase : Phase) (collector : Collector) → collector.phase ≡ phase → is_idle phase ≡ false → KeepsCount collector (phase_after phase (step_in phase collector))
-step-count Idle collector is runs = absurd (true≢false runs)
-step-count Roots collector is runs = go (new.cursor == root_slots)
-  where
-    new : Collector
-    new = step_in Roots collector
-
-    go : (last : Bool) → KeepsCount collector (if last then after_mark new new.grey else new)
-    go true = after_mark-count collector new new.grey refl refl
-    go false = running-count collector new refl refl refl
-step-count Mark collector is runs = after_mark-count collector (step_in Mark collector) (step_in Mark collector).grey refl refl
-step-count Sweep collector is runs = go (is_past new.table new.cursor)
-  where
-    new : Collector
-    new = step_in Sweep collector
-
-    go : (past : Bool) → KeepsCount collector (if past then with_phase new Defrag 0 else new)
-    go true = running-count collector (with_phase new Defrag 0) refl refl refl
-    go false = running-count collector new refl refl (ap is_idle is)
-step-count Defrag collector is runs = go (is_past new.table new.cursor)
-  where
-    new : Collector
-    new = step_in Defrag collector
-
-    same : (new.cycle ≡ collector.cycle) × (new.quanta ≡ collector.quanta)
-    same = with_move-count collector (next_move collector.table collector.cursor)
-
-    go : (past : Bool) → KeepsCount collector (if past then cycle_end new else new)
-    go true = record { cycle = same.0; running = λ r. absurd (true≢false r); ended = λ idle. refl }
-    go false = running-count collector new same.0 same.1 refl
+step-count phase collector is runs = search (arith, true≢false, after_mark-count, running-count, with_move-count)
 
 collector_step-count : (collector : Collector) → is_idle collector.phase ≡ false → KeepsCount collector (collector_step collector)
 unfolding collector_step
 collector_step-count collector runs = step-count collector.phase collector refl runs
 
 then_count : (first second third : Collector) → is_idle first.phase ≡ false → KeepsCount first second → (is_idle third.phase ≡ false → is_idle second.phase ≡ false) → KeepsCount second third → KeepsCount first third
-then_count first second third runs one back two = record { cycle = two.cycle ∙ one.cycle; running = λ r. two.running r ∙ one.running (back r); ended = two.ended }
+then_count first second third runs one back two = grind arith
 
 -- what steps leave of the count, and a cycle that runs after them ran before
 pub steps-count : (more left : ℕ) (has_moved : Bool) (collector : Collector) → (is_idle collector.phase ≡ true → collector.quanta ≡ 0)
@@ -216,7 +137,7 @@ steps-count (suc more) left has_moved collector none = elim (cases_Bool (is_idle
 ]
 
 -- steps leave the cycle's number
-steps-number : (more left : ℕ) (has_moved : Bool) (collector : Collector) → (steps more left has_moved collector).collector.cycle ≡ collector.cycle
+pub steps-number : (more left : ℕ) (has_moved : Bool) (collector : Collector) → (steps more left has_moved collector).collector.cycle ≡ collector.cycle
 unfolding steps
 steps-number zero left has_moved collector = refl
 steps-number (suc more) left has_moved collector = elim (cases_Bool (is_idle collector.phase || nat_lt left (step_cost collector has_moved))) [
@@ -230,15 +151,7 @@ steps-number (suc more) left has_moved collector = elim (cases_Bool (is_idle col
 -- and a quantum raises it if it starts a cycle
 pub quantum-number : (config : Config) (collector : Collector) → (collector.cycle ≤ (quantum config collector).collector.cycle) × ((quantum config collector).collector.cycle ≤ collector.cycle + 1)
 unfolding quantum
-quantum-number config collector =
-    let same = steps-number config.quantum config.quantum false (quantum_start config collector) in
-    elim (begins config collector).case [
-      | inl starts ↦ let e = ap (λ c. c.cycle) starts.2 in (omega (arith, same, e), omega (arith, same, e))
-      | inr other ↦ elim other [
-        | inl runs ↦ let e = ap (λ c. c.cycle) runs.1 in (omega (arith, same, e), omega (arith, same, e))
-        | inr rests ↦ let e = ap (λ c. c.cycle) rests.2 in (omega (arith, same, e), omega (arith, same, e))
-      ]
-    ]
+quantum-number config collector = grind (arith, steps-number, begins)
 
 -- The start of a cycle ---------------------------------------------------------------------------
 
@@ -248,19 +161,13 @@ sum-bounded f most (x ∷ xs) small =
     omega (arith, sum_by-cons f x xs, small 0 (omega arith), mul-suc most (length xs), sum-bounded f most xs (λ index inside. small (suc index) (omega arith)))
 
 slot_weight-bounded : (price : ℕ → ℕ) (cycle : ℕ) (block : Option Block) (most : ℕ) → ((b : Block) → block ≡ Some b → price (length b.references) ≤ most) → slot_weight price cycle block ≤ most
-slot_weight-bounded price cycle None most small = omega arith
-slot_weight-bounded price cycle (Some block) most small = go (is_marked cycle block)
-  where
-    go : (marked : Bool) → (if marked then 0 else price (length block.references)) ≤ most
-    go true = omega arith
-    go false = small block refl
+slot_weight-bounded price cycle block most small = grind arith
 
 pub page-in_steps : (cycle : ℕ) (page : Page Block) → IsRoomyPage page → page_weight in_steps cycle (Some page) ≤ 64
 page-in_steps cycle page roomy = omega (arith, few_slots page roomy, sum-bounded (slot_weight in_steps cycle) 1 page.slots (λ slot inside. slot_weight-bounded in_steps cycle (block_in slot page) 1 (λ b e. omega arith)))
 
 pub page-in_units : (cycle : ℕ) (page : Page Block) → IsRoomyPage page → page_weight in_units cycle (Some page) ≤ 256
-page-in_units cycle page roomy =
-    omega (arith, roomy.words, sum-bounded (slot_weight in_units cycle) page.class_size page.slots (λ slot inside. slot_weight-bounded in_units cycle (block_in slot page) page.class_size (λ b e. omega (arith, roomy.blocks slot b e))))
+page-in_units cycle page roomy = grind (arith, sum-bounded, slot_weight-bounded)
 
 pub table-bounded : (price : ℕ → ℕ) (cycle most : ℕ) (table : Table Block) → ((page : Page Block) → IsRoomyPage page → page_weight price cycle (Some page) ≤ most) → IsRoomy table → table_weight price cycle table ≤ most * length table
 table-bounded price cycle most table small roomy = sum-bounded (page_weight price cycle) most table (λ number inside. go (page_at table number) (roomy.pages number))

@@ -1,44 +1,34 @@
 -- A cycle ends in time: at every moment of a run what is left of it and the quanta that it has had are within its bounds.
 -- From this the reply of `left` follows.
-use Rattle.std.specs.Prelude.{◌<◌, ◌-◌, suc, nat_lt}
-use Rattle.std.proofs.Common.{◌≡◌, ◌⊎◌, ℕ, suc, ◌+◌, ◌-◌, ◌*◌, ◌/◌, ◌<◌, ◌≤◌, min, Bool, true, false, nat_le, nat_lt, if◌then◌else◌, inl, inr, List, length, None, refl, sym, ap, ◌∙◌, subst, arith}
+use Rattle.std.specs.Prelude.{◌<◌, ◌-◌, suc}
+use Rattle.std.proofs.Common.{◌≡◌, ◌⊎◌, ℕ, suc, ◌+◌, ◌-◌, ◌<◌, ◌≤◌, Bool, true, false, if◌then◌else◌, inl, inr, List, length, None, refl, sym, ap, ◌∙◌, subst, arith}
 use Rattle.std.proofs.Math.Nat.{le-div_iff_mul-le, suc-mul}
-use Rattle.std.proofs.lemmas.Bool.{cases_Bool, leb-true, ltb-true, ltb-false, true≢false, and_parts}
-use Rattle.std.proofs.lemmas.List.{length-replicate}
-use Rattle.std.proofs.lemmas.Option.{none-some}
-use Rattle.mh_model.specs.declared.command.Command.{Command}
-use Rattle.mh_model.specs.declared.command.Control.TheVariants as control
-use Rattle.mh_model.specs.declared.command.Event.{Event}
-use Rattle.mh_model.specs.declared.reply.Reply.TheVariants as reply
-use Rattle.mh_model.specs.declared.config.Config.{Config}
+use Rattle.std.proofs.lemmas.Bool.{cases_Bool, leb-true, ltb-true, ltb-false, true≢false}
+use Rattle.std.proofs.{lemmas.List.length-replicate, lemmas.Option.none-some}
+use Rattle.mh_model.specs.{declared.command.Command.Command, declared.command.Control.Control}
+use Rattle.mh_model.specs.{declared.command.Event.Event, declared.reply.Reply.Reply, declared.config.Config.Config}
 use Rattle.mh_model.specs.declared.cycle.Phase.{Phase}
-use Rattle.mh_model.specs.declared.cycle.Phase.TheVariants.{Idle}
 use Rattle.mh_model.specs.Collector.{Collector, Spending, first_collector, is_idle, cycle_start, quantum_start, steps, quantum}
-use Rattle.mh_model.specs.Mutator.{HeapState, mutator_step}
-use Rattle.mh_model.specs.World.{says}
+use Rattle.mh_model.specs.{Mutator.{HeapState, mutator_step}, World.says}
 use Rattle.mh_model.specs.Machine.{Machine, first_machine, quanta_left, with_collector, quantum_run, command_step, control_step, half_step, machine_after}
 use Rattle.mh_model.specs.Bound.{most_steps, most_units, most_quanta}
-use Rattle.mh_model.specs.CycleBounds.{IsRoomy, in_steps, in_units, steps_left, units_left, StageOf, IsUnderway, IsWithin, IsInBounds}
-use Rattle.mh_model.specs.Limits.{least_quantum, quantum_overhead}
+use Rattle.mh_model.specs.CycleBounds.{in_steps, in_units, steps_left, units_left, StageOf, IsUnderway, IsWithin, IsInBounds}
+use Rattle.mh_model.specs.Limits.{least_quantum}
 use Rattle.mh_laws.specs.Bounds.{IsInTime, HasEnded, HasRunQuanta, CycleEndsWithinItsBound, left_of, QuantaLeftEndTheCycle, CollectorsStayInBounds}
-use Rattle.mh_laws.proofs.costs.Quanta.{steps-idle}
-use Rattle.mh_laws.proofs.commands.LeftUnchanged.{mutator_step-course, steps-keeps}
-use Rattle.mh_table_laws.proofs.Lists.{none_at}
+use Rattle.mh_laws.proofs.{costs.Quanta.steps-idle, commands.LeftUnchanged.{mutator_step-course, steps-keeps}}
 use Rattle.mh_laws.proofs.bounds.CommandsKeepBounds.{mutator_step-carried}
 use Rattle.mh_laws.proofs.bounds.WorkLeft.{none_grey, steps_left-positive}
 use Rattle.mh_laws.proofs.bounds.CycleBounds.{carried-leaves, Spends, steps-spend, steps-some, KeepsCount, steps-count, page-in_steps, page-in_units, table-bounded}
 use Rattle.mh_laws.proofs.runs.EveryMoment.{config-mutator_step, half_step-keeps, machine_after-keeps}
 use Rattle.mh_laws.proofs.costs.QuantumStarts.{begins}
+use Rattle.mh_table_laws.proofs.Lists.{none_at}
 
 -- a configuration has a page, and its quanta at least 209 units
 pub config-pages : (config : Config) → 0 < config.pages
-config-pages config = leb-true 1 config.pages (and_parts (nat_le 1 config.pages) _ config.in_limits).0
+config-pages config = grind arith
 
 pub config-quantum : (config : Config) → least_quantum ≤ config.quantum
-config-quantum config =
-    let rest = (and_parts (nat_le 1 config.pages) _ config.in_limits).1 in
-    let rest' = (and_parts (nat_le config.pages 4096) _ rest).1 in
-    leb-true least_quantum config.quantum (and_parts (nat_le least_quantum config.quantum) _ rest').0
+config-quantum config = grind arith
 
 -- a collector as its first quantum's or next quantum's steps begin: one quantum more is counted than was paid for
 record IsStarted (config : Config) (old new : Collector) : Type 0 where
@@ -58,28 +48,12 @@ pub record IsFresh (config : Config) (collector : Collector) : Type 0 where
 
 pub cycle_start-fresh : (config : Config) (collector : Collector) → IsInBounds config collector → IsFresh config (cycle_start collector)
 cycle_start-fresh config collector bounds =
-    let new : Collector = cycle_start collector in
-    let roomy : IsRoomy collector.table = (bounds.under).sound.roomy in
-    let marking_steps = table-bounded in_steps (collector.cycle + 1) 64 collector.table (page-in_steps (collector.cycle + 1)) roomy in
-    let marking_units = table-bounded in_units (collector.cycle + 1) 256 collector.table (page-in_units (collector.cycle + 1)) roomy in
-    record {
-      under = record { some_page = (bounds.under).some_page; sound = none_grey new refl roomy; stage = omega arith };
-      steps = omega (arith, marking_steps, bounds.pages);
-      units = omega (arith, marking_units, bounds.pages);
-    }
+    let marking_steps = table-bounded in_steps (collector.cycle + 1) 64 collector.table (page-in_steps (collector.cycle + 1)) (bounds.under).sound.roomy in
+    let marking_units = table-bounded in_units (collector.cycle + 1) 256 collector.table (page-in_units (collector.cycle + 1)) (bounds.under).sound.roomy in
+    search (arith, none_grey)
 
 cycle_start-started : (config : Config) (collector : Collector) → IsInBounds config collector → is_idle collector.phase ≡ true → IsStarted config collector (record (cycle_start collector) { quanta = 1 })
-cycle_start-started config collector bounds idle =
-    let fresh = cycle_start-fresh config collector bounds in
-    record {
-      pages = bounds.pages;
-      under = record { some_page = (fresh.under).some_page; sound = (fresh.under).sound; stage = (fresh.under).stage };
-      runs = refl;
-      before = 0;
-      count = omega (arith, bounds.idle idle);
-      within = record { by_steps = omega (arith, fresh.steps); by_units = λ large. omega (arith, fresh.units) };
-      cycle = inr (omega arith);
-    }
+cycle_start-started config collector bounds idle = grind (arith, cycle_start-fresh)
 
 -- the count of quanta and the asking make no difference to what is left
 module _ (collector : Collector) (quanta : ℕ) (is_asked : Bool) where
@@ -87,33 +61,19 @@ module _ (collector : Collector) (quanta : ℕ) (is_asked : Bool) where
   recounted = record collector { quanta = quanta; is_asked = is_asked }
 
   stage-recounted : (phase : Phase) → StageOf phase collector → StageOf phase recounted
-  stage-recounted Idle stage = stage
-  stage-recounted other stage = stage
+  stage-recounted other stage = grind arith
 
   under-recounted : IsUnderway collector → IsUnderway recounted
-  under-recounted under = record { some_page = under.some_page; sound = under.sound; stage = stage-recounted collector.phase under.stage }
+  under-recounted under = grind arith
 
   steps-recounted : (phase : Phase) → steps_left phase recounted ≡ steps_left phase collector
-  steps-recounted Idle = refl
-  steps-recounted other = refl
+  steps-recounted other = grind arith
 
   units-recounted : (phase : Phase) → units_left phase recounted ≡ units_left phase collector
-  units-recounted Idle = refl
-  units-recounted other = refl
+  units-recounted other = grind arith
 
 with_count-started : (config : Config) (collector : Collector) → IsInBounds config collector → is_idle collector.phase ≡ false → IsStarted config collector (record collector { quanta = collector.quanta + 1 })
-with_count-started config collector bounds runs =
-    let more : ℕ = collector.quanta + 1 in
-    let asked : Bool = collector.is_asked in
-    record {
-      pages = bounds.pages;
-      under = under-recounted collector more asked bounds.under;
-      runs = runs;
-      before = collector.quanta;
-      count = omega arith;
-      within = record { by_steps = omega (arith, (bounds.within).by_steps, steps-recounted collector more asked collector.phase); by_units = λ large. omega (arith, (bounds.within).by_units large, units-recounted collector more asked collector.phase) };
-      cycle = inl (runs, refl, refl);
-    }
+with_count-started config collector bounds runs = grind arith
 
 -- a quantum begins with a cycle that runs, or leaves an idle collector as it is
 quantum_start-started : (config : Config) (collector : Collector) → IsInBounds config collector → ((is_idle collector.phase ≡ true) × (quantum_start config collector ≡ collector)) ⊎ IsStarted config collector (quantum_start config collector)
@@ -130,40 +90,22 @@ pub record IsQuantum (config : Config) (old : Collector) (after : Spending) : Ty
   pub same : after.collector.cycle ≡ old.cycle → is_idle after.collector.phase ≡ false → (is_idle old.phase ≡ false) × (after.collector.quanta ≡ old.quanta + 1)
 
 quantum-idle : (config : Config) (collector : Collector) → IsInBounds config collector → is_idle collector.phase ≡ true → IsQuantum config collector (steps config.quantum config.quantum false collector)
-quantum-idle config collector bounds idle = subst (IsQuantum config collector) (sym (steps-idle config.quantum config.quantum false collector idle)) (record {
-  bounds = bounds;
-  rest = λ runs. absurd (true≢false (sym idle ∙ runs));
-  cycle = omega arith;
-  same = λ e runs. absurd (true≢false (sym idle ∙ runs));
-})
+quantum-idle config collector bounds idle = grind (arith, steps-idle, true≢false)
 
 -- nothing is left if no cycle runs
 pub idle-left : (phase : Phase) (collector : Collector) → is_idle phase ≡ true → (steps_left phase collector ≡ 0) × (units_left phase collector ≡ 0)
-idle-left Idle collector idle = (refl, refl)
-idle-left other collector idle = absurd (true≢false (sym idle))
+idle-left other collector idle = grind arith
 
 started-within : (config : Config) (old new : Collector) → IsStarted config old new → (after : Spending) → Spends false config.quantum new after
     → steps_left after.collector.phase after.collector + 1 ≤ steps_left new.phase new → KeepsCount new after.collector
     → IsWithin config after.collector.quanta (steps_left after.collector.phase after.collector) (units_left after.collector.phase after.collector)
-started-within config old new started after spent some count = elim (cases_Bool (is_idle after.collector.phase)) [
-  | inl idle ↦
-      let (no_steps, no_units) = idle-left after.collector.phase after.collector idle in
-      subst (λ n. IsWithin config n (steps_left after.collector.phase after.collector) (units_left after.collector.phase after.collector)) (sym (count.ended idle)) (record { by_steps = omega (arith, no_steps); by_units = λ large. omega (arith, no_units) })
-  | inr runs ↦
-      subst (λ n. IsWithin config n (steps_left after.collector.phase after.collector) (units_left after.collector.phase after.collector)) (sym (count.running runs ∙ started.count)) (record {
-        by_steps = omega (arith, some, (started.within).by_steps);
-        by_units = λ large. omega (arith, (started.within).by_units large, suc-mul started.before (config.quantum - quantum_overhead), spent.units_paid, spent.rest runs);
-      })
-]
+started-within config old new started after spent some count = grind (arith, cases_Bool, idle-left, suc-mul)
 
 started-same : (config : Config) (old new : Collector) → IsStarted config old new → (after : Collector) → KeepsCount new after → after.cycle ≡ old.cycle → is_idle after.phase ≡ false → (is_idle old.phase ≡ false) × (after.quanta ≡ old.quanta + 1)
-started-same config old new started after count e runs = elim (started.cycle) [
-  | inl same ↦ (same.0, omega (arith, count.running runs, started.count, same.2))
-  | inr more ↦ absurd (omega (arith, count.cycle))
-]
+started-same config old new started after count e runs = grind arith
 
 started-cycle : (config : Config) (old new : Collector) → IsStarted config old new → old.cycle ≤ new.cycle
-started-cycle config old new started = elim (started.cycle) [ inl same ↦ omega (arith, same.1) | inr more ↦ omega arith ]
+started-cycle config old new started = grind arith
 
 quantum-started : (config : Config) (old new : Collector) → IsStarted config old new → IsQuantum config old (steps config.quantum config.quantum false new)
 quantum-started config old new started =
@@ -194,16 +136,10 @@ quantum-in_bounds config collector bounds = elim (quantum_start-started config c
 
 command-in_bounds : (config : Config) (heap : HeapState) (who : ℕ) (command : Command) → IsInBounds config heap.collector → IsInBounds config (mutator_step heap who command).state.collector
 command-in_bounds config heap who command bounds =
-    let old : Collector = heap.collector in
     let new : Collector = (mutator_step heap who command).state.collector in
     let course = mutator_step-course heap who command in
-    let leaves = carried-leaves old new course (mutator_step-carried heap who command (bounds.under).sound) bounds.under in
-    record {
-      pages = course.pages ∙ bounds.pages;
-      under = leaves.under;
-      idle = λ idle. course.quanta ∙ bounds.idle (ap is_idle (sym course.phase) ∙ idle);
-      within = rw course.quanta (record { by_steps = omega (arith, leaves.steps, (bounds.within).by_steps); by_units = λ large. omega (arith, leaves.units, (bounds.within).by_units large) });
-    }
+    let leaves = carried-leaves heap.collector new course (mutator_step-carried heap who command (bounds.under).sound) bounds.under in
+    grind arith
 
 first-in_bounds : (config : Config) → IsInBounds config (first_collector config)
 first-in_bounds config =
@@ -216,50 +152,24 @@ first-in_bounds config =
     }
 
 asked-in_bounds : (config : Config) (collector : Collector) → IsInBounds config collector → IsInBounds config (record collector { is_asked = true })
-asked-in_bounds config collector bounds = record {
-  pages = bounds.pages;
-  under = under-recounted collector collector.quanta true bounds.under;
-  idle = bounds.idle;
-  within = record {
-    by_steps = omega (arith, (bounds.within).by_steps, steps-recounted collector collector.quanta true collector.phase);
-    by_units = λ large. omega (arith, (bounds.within).by_units large, units-recounted collector collector.quanta true collector.phase);
-  };
-}
+asked-in_bounds config collector bounds = grind arith
 
 -- In time ----------------------------------------------------------------------------------------
 
 fewer-than_most : (config : Config) (collector : Collector) → IsInBounds config collector → is_idle collector.phase ≡ false → collector.quanta < most_quanta config
-fewer-than_most config collector bounds runs =
-    let by_steps : collector.quanta < most_steps config = omega (arith, (bounds.within).by_steps, steps_left-positive collector bounds.under runs) in
-    go (nat_lt quantum_overhead config.quantum) refl by_steps
-  where
-    go : (large : Bool) → nat_lt quantum_overhead config.quantum ≡ large → collector.quanta < most_steps config → collector.quanta < (if large then min (most_steps config) (most_units config / (config.quantum - quantum_overhead) + 1) else most_steps config)
-    go false e by_steps = by_steps
-    go true e by_steps =
-        let large : quantum_overhead < config.quantum = leb-true (suc quantum_overhead) config.quantum e in
-        let room : collector.quanta * (config.quantum - quantum_overhead) ≤ most_units config = omega (arith, (bounds.within).by_units large) in
-        let positive : 0 < config.quantum - quantum_overhead = omega arith in
-        let divided : collector.quanta ≤ most_units config / (config.quantum - quantum_overhead) = (le-div_iff_mul-le positive).1 room in
-        omega arith
+fewer-than_most config collector bounds runs = grind (arith, steps_left-positive, leb-true, le-div_iff_mul-le)
 
 in_time : (config : Config) (collector : Collector) → IsInBounds config collector → IsInTime config collector
 in_time config collector bounds = record { running = fewer-than_most config collector bounds; idle = bounds.idle }
 
 most_quanta-few : (config : Config) → most_quanta config ≤ 786576
-most_quanta-few config = go (nat_lt quantum_overhead config.quantum)
-  where
-    pages : config.pages ≤ 4096
-    pages = leb-true config.pages 4096 (and_parts (nat_le config.pages 4096) _ (and_parts (nat_le 1 config.pages) _ config.in_limits).1).0
-
-    go : (large : Bool) → (if large then min (most_steps config) (most_units config / (config.quantum - quantum_overhead) + 1) else most_steps config) ≤ 786576
-    go true = omega (arith, pages)
-    go false = omega (arith, pages)
+most_quanta-few config = grind arith
 
 count-most : (config : Config) (collector : Collector) → IsInBounds config collector → collector.quanta ≤ most_quanta config
-count-most config collector bounds = elim (cases_Bool (is_idle collector.phase)) [ inl idle ↦ omega (arith, bounds.idle idle) | inr runs ↦ omega (arith, fewer-than_most config collector bounds runs) ]
+count-most config collector bounds = grind (arith, cases_Bool, fewer-than_most)
 
 quanta_left-some : (config : Config) (collector : Collector) → IsInBounds config collector → is_idle collector.phase ≡ false → 1 ≤ quanta_left config collector
-quanta_left-some config collector bounds runs = subst (λ idle. 1 ≤ (if idle then 0 else most_quanta config - collector.quanta)) (sym runs) (omega (arith, fewer-than_most config collector bounds runs))
+quanta_left-some config collector bounds runs = grind (arith, fewer-than_most)
 
 -- A collector stays within the bounds of its cycle
 pub collectors-in_bounds : CollectorsStayInBounds
@@ -282,25 +192,25 @@ pub record StaysInBounds (config : Config) (machine : Machine) : Type 0 where
 module _ (config : Config) where
   pub by_command : (machine : Machine) (who : ℕ) (command : Command) → StaysInBounds config machine → StaysInBounds config (command_step machine who command).state
   unfolding command_step
-  by_command machine who command stays = record { config_is = config-mutator_step machine.heap who command ∙ stays.config_is; bounds = command-in_bounds config machine.heap who command stays.bounds }
+  by_command machine who command stays = search (arith, config-mutator_step, command-in_bounds)
 
   -- the quantum that a machine runs is one of its configuration
   pub run-in_bounds : (machine : Machine) → StaysInBounds config machine → IsQuantum config machine.heap.collector (quantum machine.heap.config machine.heap.collector)
-  run-in_bounds machine stays = subst (λ c. IsQuantum config machine.heap.collector (quantum c machine.heap.collector)) (sym stays.config_is) (quantum-in_bounds config machine.heap.collector stays.bounds)
+  run-in_bounds machine stays = grind (arith, quantum-in_bounds config machine.heap.collector stays.bounds)
 
   pub by_quantum : (machine : Machine) → StaysInBounds config machine → StaysInBounds config (quantum_run machine).state
   unfolding quantum_run
   by_quantum machine stays = record { config_is = stays.config_is; bounds = (run-in_bounds machine stays).bounds }
 
   pub by_asking : (machine : Machine) → StaysInBounds config machine → StaysInBounds config (with_collector machine (record (machine.heap.collector) { is_asked = true }))
-  by_asking machine stays = record { config_is = stays.config_is; bounds = asked-in_bounds config machine.heap.collector stays.bounds }
+  by_asking machine stays = grind arith
 
   -- Every moment of a run is within the bounds
   pub run-stays : (events : List Event) → StaysInBounds config (machine_after (first_machine config) events)
   run-stays events = machine_after-keeps (StaysInBounds config) by_command by_quantum by_asking events (first_machine config) (record { config_is = refl; bounds = first-in_bounds config })
 
   pub half-stays : (events : List Event) (event : Event) → StaysInBounds config (half_step (machine_after (first_machine config) events) event)
-  half-stays events event = half_step-keeps (StaysInBounds config) by_command by_quantum by_asking (machine_after (first_machine config) events) event (run-stays events)
+  half-stays events event = grind (arith, half_step-keeps, by_command, by_quantum, by_asking, run-stays)
 
   -- so many quanta of a cycle were run since a machine, or the cycle has ended
   record IsLater (machine later : Machine) : Type 0 where
@@ -310,48 +220,20 @@ module _ (config : Config) where
 
   command-later : (first machine : Machine) (who : ℕ) (command : Command) → IsLater first machine → IsLater first (command_step machine who command).state
   unfolding command_step
-  command-later first machine who command later =
-      let course = mutator_step-course machine.heap who command in
-      record {
-        stays = by_command machine who command later.stays;
-        cycle = omega (arith, later.cycle, course.cycle);
-        same = λ e runs. omega (arith, later.same (sym course.cycle ∙ e) (ap is_idle (sym course.phase) ∙ runs), course.quanta);
-      }
+  command-later first machine who command later = grind (arith, mutator_step-course, by_command)
 
   quantum-later : (first machine : Machine) → IsLater first machine → IsLater first (quantum_run machine).state
   unfolding quantum_run
-  quantum-later first machine later =
-      let old : Collector = machine.heap.collector in
-      let new : Collector = (quantum machine.heap.config machine.heap.collector).collector in
-      let one = run-in_bounds machine later.stays in
-      record {
-        stays = by_quantum machine later.stays;
-        cycle = omega (arith, later.cycle, one.cycle);
-        same = λ e runs.
-            let before : old.cycle ≡ (first.heap.collector).cycle = omega (arith, later.cycle, one.cycle, e) in
-            let (ran, quanta) = one.same (e ∙ sym before) runs in
-            omega (arith, quanta, later.same before ran);
-      }
+  quantum-later first machine later = grind (arith, run-in_bounds machine later.stays)
 
   asking-later : (first machine : Machine) → IsLater first machine → IsLater first (with_collector machine (record (machine.heap.collector) { is_asked = true }))
-  asking-later first machine later = record { stays = by_asking machine later.stays; cycle = later.cycle; same = later.same }
+  asking-later first machine later = grind arith
 
   ends-later : (first later : Machine) → IsLater first later → HasRunQuanta (most_quanta config - first.heap.collector.quanta) first later → HasEnded first.heap.collector.cycle later.heap.collector
-  ends-later first later is run = elim (cases_Bool (is_idle later.heap.collector.phase)) [
-    | inl idle ↦ elim (cases_Bool (nat_lt (first.heap.collector).cycle (later.heap.collector).cycle)) [
-      | inl more ↦ inl (ltb-true (first.heap.collector).cycle (later.heap.collector).cycle more)
-      | inr same ↦ inr (omega (arith, ltb-false (first.heap.collector).cycle (later.heap.collector).cycle same, is.cycle), idle)
-    ]
-    | inr runs ↦ elim (cases_Bool (nat_lt (first.heap.collector).cycle (later.heap.collector).cycle)) [
-      | inl more ↦ inl (ltb-true (first.heap.collector).cycle (later.heap.collector).cycle more)
-      | inr same ↦
-          let equal : (later.heap.collector).cycle ≡ (first.heap.collector).cycle = omega (arith, ltb-false (first.heap.collector).cycle (later.heap.collector).cycle same, is.cycle) in
-          absurd (omega (arith, run, is.same equal runs, fewer-than_most config later.heap.collector (is.stays).bounds runs))
-    ]
-  ]
+  ends-later first later is run = grind (arith, cases_Bool, ltb-true, ltb-false, fewer-than_most)
 
   first-later : (machine : Machine) → StaysInBounds config machine → IsLater machine machine
-  first-later machine stays = record { stays = stays; cycle = omega arith; same = λ e runs. omega arith }
+  first-later machine stays = grind arith
 
 -- A cycle ends within its bound
 pub cycle_ends : CycleEndsWithinItsBound
@@ -366,9 +248,9 @@ cycle_ends = record {
 
 -- and reports so while it runs
 quanta_left-running : (config : Config) (machine : Machine) → machine.heap.config ≡ config → is_idle machine.heap.collector.phase ≡ false → left_of machine ≡ most_quanta config - machine.heap.collector.quanta
-quanta_left-running config machine same runs = ap (λ idle. if idle then 0 else most_quanta machine.heap.config - machine.heap.collector.quanta) runs ∙ ap (λ c. most_quanta c - machine.heap.collector.quanta) same
+quanta_left-running config machine same runs = grind arith
 
-control_left : (machine : Machine) → control_step machine control.Left ≡ says (reply.Left (left_of machine)) machine
+control_left : (machine : Machine) → control_step machine Control.Left ≡ says (Reply.Left (left_of machine)) machine
 unfolding control_step
 control_left machine = refl
 

@@ -1,12 +1,9 @@
 -- At every moment of a run the table has such sizes that no step costs more than 209.
-use Rattle.mh_model.specs.declared.config.Config.{Config}
-use Rattle.mh_model.specs.Collector.{Collector}
-use Rattle.mh_model.specs.CycleBounds.{IsInBounds}
+use Rattle.mh_model.specs.{declared.config.Config.Config, Collector.Collector, CycleBounds.IsInBounds}
 use Rattle.mh_table_laws.specs.Tables.{IsSized}
 use Rattle.mh_laws.specs.Costs.{DearestStepCosts209}
 use Rattle.mh_table_laws.proofs.tables.BlockRoom.{roomy-sized}
-use Rattle.mh_laws.proofs.costs.Quanta.{step_cost-bounded}
-use Rattle.mh_laws.proofs.bounds.CyclesInTime.{run-stays, half-stays}
+use Rattle.mh_laws.proofs.{costs.Quanta.step_cost-bounded, bounds.CyclesInTime.{run-stays, half-stays}}
 
 -- the pages of a collector within the bounds of its cycle are roomy, and so of such sizes
 bounds-sized : (config : Config) (collector : Collector) → IsInBounds config collector → IsSized collector.table

@@ -1,16 +1,12 @@
 -- A cycle takes so many steps and units, whatever commands come between its steps.
-use Rattle.std.proofs.Common.{◌≡◌, suc, ◌+◌, ◌≤◌, true, false, inl, inr, List, [], ◌∷◌, refl, sym, ap, subst, arith}
-use Rattle.std.proofs.lemmas.Bool.{cases_Bool, true≢false}
+use Rattle.std.proofs.Common.{◌≡◌, suc, ◌+◌, ◌≤◌, true, false, inl, inr, List, [], ◌∷◌, sym, subst, arith}
+use Rattle.std.proofs.lemmas.Bool.{cases_Bool}
 use Rattle.mh_model.specs.declared.config.Config.{Config}
-use Rattle.mh_model.specs.declared.cycle.Phase.{Phase}
-use Rattle.mh_model.specs.declared.cycle.Phase.TheVariants.{Idle}
-use Rattle.mh_model.specs.Collector.{Collector, cycle_start, cost_in, step_in, phase_after, collector_step, is_idle}
-use Rattle.mh_model.specs.Mutator.{HeapState, mutator_step}
-use Rattle.mh_model.specs.Bound.{most_steps, most_units}
+use Rattle.mh_model.specs.Collector.{Collector, cycle_start, cost_in, collector_step, is_idle}
+use Rattle.mh_model.specs.{Mutator.{HeapState, mutator_step}, Bound.{most_steps, most_units}}
 use Rattle.mh_model.specs.CycleBounds.{steps_left, units_left, IsUnderway, IsInBounds}
 use Rattle.mh_laws.specs.Deeds.{Deed, Step, Perform, with_step, heap_after, step_count, cost_of, with_cycle, CycleTakesBoundedSteps}
-use Rattle.mh_laws.proofs.commands.LeftUnchanged.{mutator_step-course}
-use Rattle.mh_laws.proofs.bounds.CommandsKeepBounds.{mutator_step-carried}
+use Rattle.mh_laws.proofs.{commands.LeftUnchanged.mutator_step-course, bounds.CommandsKeepBounds.mutator_step-carried}
 use Rattle.mh_laws.proofs.bounds.WorkLeft.{steps_left-positive, collector_step-paid}
 use Rattle.mh_laws.proofs.bounds.CycleBounds.{carried-leaves}
 use Rattle.mh_laws.proofs.bounds.CyclesInTime.{IsFresh, cycle_start-fresh, idle-left, half-stays}
@@ -18,11 +14,7 @@ use Rattle.mh_laws.proofs.bounds.CyclesInTime.{IsFresh, cycle_start-fresh, idle-
 -- a step of an idle collector does nothing, and costs nothing
 pub step-idle : (collector : Collector) → is_idle collector.phase ≡ true → (collector_step collector ≡ collector) × (cost_in collector.phase collector true ≡ 0)
 unfolding collector_step
-step-idle collector idle = go collector.phase idle
-  where
-    go : (phase : Phase) → is_idle phase ≡ true → (phase_after phase (step_in phase collector) ≡ collector) × (cost_in phase collector true ≡ 0)
-    go Idle e = (refl, refl)
-    go other e = absurd (true≢false (sym e))
+step-idle collector idle = grind arith
 
 -- a step keeps a collector on its way
 pub step-under : (collector : Collector) → IsUnderway collector → IsUnderway (collector_step collector)
@@ -44,16 +36,9 @@ record LeftAfter (heap : HeapState) (deeds : List Deed) (next : HeapState) : Typ
   pub units : cost_in heap.collector.phase heap.collector true + cost_of next deeds ≤ units_left heap.collector.phase heap.collector
 
 pub deeds-took : (deeds : List Deed) (heap : HeapState) → IsUnderway heap.collector → Took heap deeds
-deeds-took [] heap under = record { under = under; steps = λ runs. omega arith; units = omega arith }
+deeds-took [] heap under = grind arith
 deeds-took (Step ∷ deeds) heap under = elim (cases_Bool (is_idle heap.collector.phase)) [
-  | inl idle ↦
-      let (same, free) = step-idle heap.collector idle in
-      let rest = deeds-took deeds heap under in
-      let none : steps_left heap.collector.phase heap.collector ≡ 0 = (idle-left heap.collector.phase heap.collector idle).0 in
-      let here : LeftAfter heap deeds heap =
-      record { under = rest.under; steps = λ running. absurd (omega (arith, rest.steps running, steps_left-positive (heap_after heap deeds).collector rest.under running, none)); units = omega (arith, rest.units, free) } in
-      let there : LeftAfter heap deeds (with_step heap) = subst (LeftAfter heap deeds) (ap (λ c. record heap { collector = c }) (sym same)) here in
-      record { under = there.under; steps = there.steps; units = there.units }
+  | inl idle ↦ search (arith, step-idle, idle-left, steps_left-positive, deeds-took deeds heap under)
   | inr runs ↦
       let paid = collector_step-paid heap.collector under runs in
       let rest = deeds-took deeds (with_step heap) paid.under in

@@ -1,45 +1,31 @@
 -- What is left of a cycle, in steps and in units: each step of a running cycle uses it up.
-use Rattle.std.proofs.Common.{length-set, ◌≡◌, ◌≢◌, ◌⊎◌, ℕ, suc, ◌+◌, ◌-◌, ◌*◌, ◌/◌, ◌%◌, ◌<◌, ◌≤◌, ◌==◌, Bool, true, false, nat_lt, if◌then◌else◌, inl, inr, List, [], ◌∷◌, length, get_or, Option, Some, None, option_map, option_and_then, unwrap_or, refl, sym, ap, ◌∙◌, subst, arith}
-use Rattle.std.specs.List.{AllByRecursion, IsDistinct}
-use Rattle.std.proofs.Math.Nat.{mul-div-le, mul-le-mul_left, mul-suc}
-use Rattle.std.proofs.lemmas.Bool.{leb-false, ltb-true, ltb-false, true≢false, eq-eqb}
+use Rattle.std.proofs.Common.{length-set, ◌≡◌, ◌≢◌, ◌⊎◌, ℕ, suc, ◌+◌, ◌*◌, ◌<◌, ◌≤◌, ◌==◌, Bool, true, false, if◌then◌else◌, inl, inr, List, [], ◌∷◌, length, get_or, Option, Some, None, option_map, option_and_then, unwrap_or, refl, sym, ap, ◌∙◌, subst, arith}
+use Rattle.std.proofs.{Math.Nat.{mul-div-le, mul-le-mul_left, mul-suc}, lemmas.Bool.{leb-false, true≢false, eq-eqb}}
 use Rattle.std.proofs.lemmas.Option.{none-some}
+use Rattle.std.specs.List.{IsDistinct}
 use Rattle.mh_model.specs.declared.cycle.Phase.{Phase}
 use Rattle.mh_model.specs.declared.cycle.Phase.TheVariants.{Idle, Roots, Mark, Sweep, Defrag}
-use Rattle.mh_model.specs.Pages.{Page, Table, page_number, slot_number, page_at, block_in, block_at, page_for, with_taken}
-use Rattle.mh_model.specs.Table.{Block}
-use Rattle.mh_model.specs.Collector.{Collector, Marking, Move, marking_of, with_marking, with_phase, with_shade, mark_first, first_mark_cost, next_page, next_place, is_last_slot, flagged_page, next_move, moved_table, move_cost, with_move, after_mark, is_past, cycle_end, step_in, phase_after, collector_step, cost_in, is_idle}
+use Rattle.mh_model.specs.{Pages.{Page, Table, page_number, slot_number, block_in, block_at, with_taken}, Table.Block}
+use Rattle.mh_model.specs.Collector.{Collector, Marking, Move, marking_of, with_marking, with_phase, with_shade, mark_first, first_mark_cost, next_page, next_place, flagged_page, next_move, moved_table, move_cost, with_move, after_mark, is_past, cycle_end, step_in, phase_after, collector_step, cost_in, is_idle}
 use Rattle.mh_model.specs.CycleBounds.{IsRoomy, count_at, class_at, weight, IsGreySound, in_steps, in_units, size_at, movable, movable_words, steps_left, units_left, StageOf, IsUnderway}
 use Rattle.mh_model.specs.Limits.{root_slots}
 use Rattle.mh_laws.proofs.commands.LeftUnchanged.{shade-keeps, mark_first-keeps, step_in-keeps}
-use Rattle.mh_laws.proofs.moving.NextMove.{IsNextMove, next_move-is}
+use Rattle.mh_laws.proofs.{moving.NextMove.{IsNextMove, next_move-is}, bounds.CommandsKeepBounds.with_shade-carries}
 use Rattle.mh_table_laws.proofs.placing.Places.{least_dense_place-page, block_at-with_taken_other}
 use Rattle.mh_table_laws.proofs.tables.BlockRoom.{IsClass, roomy-shaped, swept-roomy, with_taken-roomy, rewritten-roomy}
 use Rattle.mh_table_laws.proofs.marking.GreyList.{Carries, MarksThrough, class-with_block, class-with_taken, mark_first-pays, cycle-mark_first}
-use Rattle.mh_laws.proofs.bounds.CommandsKeepBounds.{with_shade-carries}
 use Rattle.mh_table_laws.proofs.Lists.{below_length}
 
 -- What is left -----------------------------------------------------------------------------------
 
 -- A running cycle has a step left
 pub steps_left-positive : (collector : Collector) → IsUnderway collector → is_idle collector.phase ≡ false → 0 < steps_left collector.phase collector
-steps_left-positive collector under runs = go collector.phase under.stage runs
-  where
-    go : (phase : Phase) → StageOf phase collector → is_idle phase ≡ false → 0 < steps_left phase collector
-    go Idle stage runs = absurd (true≢false runs)
-    go Roots stage runs = omega arith
-    go Mark stage runs = omega (arith, under.some_page)
-    go Sweep stage runs = omega (arith, stage.1)
-    go Defrag stage runs = omega (arith, stage.1)
+steps_left-positive collector under runs = grind arith
 
 -- a collector with no grey place is sound if its pages are roomy
 pub none_grey : (collector : Collector) → collector.grey ≡ [] → IsRoomy collector.table → IsGreySound (marking_of collector)
 unfolding IsDistinct
-none_grey collector none roomy = record {
-  roomy = roomy;
-  once = subst (IsDistinct (λ a b. a == b)) (sym none) tt;
-  marked = subst (AllByRecursion _) (sym none) tt;
-}
+none_grey collector none roomy = grind arith
 
 -- Cursors ----------------------------------------------------------------------------------------
 
@@ -49,22 +35,13 @@ pub record IsNext (place next : ℕ) : Type 0 where
   pub position : ((page_number next ≡ page_number place) × (slot_number next ≡ suc (slot_number place))) ⊎ ((page_number next ≡ suc (page_number place)) × (slot_number next ≡ 0))
 
 next_page-next : (place : ℕ) → IsNext place (next_page place)
-next_page-next place = record { further = omega arith; position = inr (omega arith, omega arith) }
+next_page-next place = grind arith
 
 slot-next : (place : ℕ) → IsNext place (place + 1)
-slot-next place = record { further = omega arith; position = go (nat_lt (place % 64) 63) refl }
-  where
-    go : (b : Bool) → nat_lt (place % 64) 63 ≡ b → (((place + 1) / 64 ≡ place / 64) × ((place + 1) % 64 ≡ suc (place % 64))) ⊎ (((place + 1) / 64 ≡ suc (place / 64)) × ((place + 1) % 64 ≡ 0))
-    go true e = let l : place % 64 < 63 = ltb-true (place % 64) 63 e in inl (omega arith, omega arith)
-    go false e = let l : 63 ≤ place % 64 = ltb-false (place % 64) 63 e in inr (omega arith, omega arith)
+slot-next place = grind arith
 
 next_place-next : (place : ℕ) (content : Option (Page Block)) → IsNext place (next_place place content)
-next_place-next place None = next_page-next place
-next_place-next place (Some page) = go (is_last_slot place page)
-  where
-    go : (last : Bool) → IsNext place (if last then next_page place else place + 1)
-    go true = next_page-next place
-    go false = slot-next place
+next_place-next place content = grind arith
 
 not_past : (table : Table Block) (place : ℕ) → is_past table place ≡ false → place < 64 * length table
 not_past table place e = omega (arith, leb-false (length table) (page_number place) e)
@@ -79,19 +56,10 @@ pub record IsPaid (taken spent steps units : ℕ) (new : Collector) : Type 0 whe
 
 after_mark-paid : (collector : Collector) → 0 < length collector.table → IsGreySound (marking_of collector) → (grey : List ℕ) → collector.grey ≡ grey
     → IsPaid 0 0 (weight in_steps (marking_of collector) + 128 * length collector.table) (weight in_units (marking_of collector) + 384 * length collector.table) (after_mark collector grey)
-after_mark-paid collector some sound [] e = record {
-  under = record { some_page = some; sound = record { roomy = sound.roomy; once = sound.once; marked = sound.marked }; stage = (e, omega arith) };
-  steps_paid = omega arith;
-  units_paid = omega arith;
-}
-after_mark-paid collector some sound (place ∷ grey) e = record {
-  under = record { some_page = some; sound = record { roomy = sound.roomy; once = sound.once; marked = sound.marked }; stage = rw e (omega arith) };
-  steps_paid = omega arith;
-  units_paid = omega arith;
-}
+after_mark-paid collector some sound grey e = grind arith
 
 paid_more : (taken spent steps units steps' units' : ℕ) (new : Collector) → steps + taken ≤ steps' → units + spent ≤ units' → IsPaid 0 0 steps units new → IsPaid taken spent steps' units' new
-paid_more taken spent steps units steps' units' new s u paid = record { under = paid.under; steps_paid = omega (arith, paid.steps_paid); units_paid = omega (arith, paid.units_paid) }
+paid_more taken spent steps units steps' units' new s u paid = grind arith
 
 roots-paid : (collector : Collector) → 0 < length collector.table → IsGreySound (marking_of collector) → collector.cursor < root_slots
     → IsPaid 1 2 (steps_left Roots collector) (units_left Roots collector) (phase_after Roots (step_in Roots collector))
@@ -157,24 +125,13 @@ sweep-paid collector phase some sound (none, inside) = go (is_past new.table new
     pages = (step_in-keeps 0 Sweep collector).pages
 
     next : IsNext collector.cursor new.cursor
-    next = next_place-next collector.cursor (page_at collector.table (page_number collector.cursor))
+    next = grind arith
 
     roomy : IsRoomy new.table
     roomy = swept-roomy collector.cycle collector.table collector.cursor sound.roomy
 
     go : (past : Bool) → is_past new.table new.cursor ≡ past → IsPaid 1 1 (steps_left Sweep collector) (units_left Sweep collector) (if past then with_phase new Defrag 0 else new)
-    go true e = record {
-      under = record { some_page = omega (arith, pages); sound = none_grey (with_phase new Defrag 0) none roomy; stage = (none, omega (arith, pages)) };
-      steps_paid = omega (arith, pages);
-      units_paid = omega (arith, pages);
-    }
-    go false e =
-        let inside' : new.cursor < 64 * length new.table = not_past new.table new.cursor e in
-        record {
-          under = record { some_page = omega (arith, pages); sound = none_grey new none roomy; stage = subst (λ p. StageOf p new) (sym phase) (none, inside') };
-          steps_paid = subst (λ p. steps_left p new + 1 ≤ steps_left Sweep collector) (sym phase) (omega (arith, pages, next.further, inside'));
-          units_paid = subst (λ p. units_left p new + 1 ≤ units_left Sweep collector) (sym phase) (omega (arith, pages, next.further, inside'));
-        }
+    go past e = grind (arith, pages, none_grey, new, roomy, not_past)
 
 -- Moves ------------------------------------------------------------------------------------------
 
@@ -190,11 +147,10 @@ moved-roomy table place move roomy is =
     let none : block_at table move.target ≡ None = ap (option_and_then (block_in (slot_number move.target))) in_use ∙ empty.empty in
     let apart : place ≢ move.target = λ same. none-some move.block (sym none ∙ ap (block_at table) (sym same) ∙ at) in
     let there : block_at taken place ≡ Some move.block = block_at-with_taken_other table move.class_size move.target place move.block apart ∙ at in
-    rewritten-roomy taken place move.block (record (move.block) { forward = Some move.target })
-    (with_taken-roomy table move.class_size move.target move.block roomy class (ap (λ p. (page_for move.class_size p).class_size) in_use ∙ of_class) fits) there refl
+    grind (arith, rewritten-roomy, with_taken-roomy, roomy)
 
 moved-class : (table : Table Block) (place : ℕ) (move : Move) (number size : ℕ) → class_at table number ≡ Some size → class_at (moved_table table place move) number ≡ Some size
-moved-class table place move number size e = class-with_block (with_taken table move.class_size move.target move.block) place _ number size (class-with_taken table move.class_size move.target move.block number size e)
+moved-class table place move number size e = search (arith, class-with_block, class-with_taken)
 
 -- Defragmentation --------------------------------------------------------------------------------
 
@@ -205,20 +161,10 @@ FitsPage slot words used = (used ≡ 0) ⊎ ((used ≡ words) × (words * slot +
 -- what a move takes of the words that may still be moved
 movable-used : (pages page slot words page' slot' words' used : ℕ) → ((page' ≡ page) × (slot' ≡ suc slot)) ⊎ ((page' ≡ suc page) × (slot' ≡ 0)) → page' < pages → (page' ≡ page → words' ≡ words) → FitsPage slot words used
     → movable pages page' slot' words' + used ≤ movable pages page slot words
-movable-used pages page slot words page' slot' words' used (inl (same, next)) inside class fits = rw (same, next, class same, mul-suc) (by_fit fits)
-  where
-    by_fit : FitsPage slot words used → 256 * (pages - suc page) + (256 - (words * slot + words)) + used ≤ 256 * (pages - suc page) + (256 - words * slot)
-    by_fit (inl none) = omega arith
-    by_fit (inr (one, room)) = omega arith
-movable-used pages page slot words page' slot' words' used (inr (next, start)) inside class fits = rw (next, start) (by_fit fits)
-  where
-    by_fit : FitsPage slot words used → 256 * (pages - suc (suc page)) + (256 - words' * 0) + used ≤ 256 * (pages - suc page) + (256 - words * slot)
-    by_fit (inl none) = omega (arith, inside)
-    by_fit (inr (one, room)) = omega (arith, inside)
+movable-used pages page slot words page' slot' words' used is inside class fits = grind (arith, mul-suc, pages)
 
 movable-fits : (pages page slot words used : ℕ) → FitsPage slot words used → used ≤ movable pages page slot words
-movable-fits pages page slot words used (inl none) = omega arith
-movable-fits pages page slot words used (inr (one, room)) = omega arith
+movable-fits pages page slot words used is = grind arith
 
 defrag_after-paid : (collector new : Collector) (used : ℕ) → new.phase ≡ Defrag → 0 < length collector.table → length new.table ≡ length collector.table → new.grey ≡ [] → IsRoomy new.table
     → size_at new.table (page_number collector.cursor) ≡ size_at collector.table (page_number collector.cursor) → FitsPage (slot_number collector.cursor) (size_at collector.table (page_number collector.cursor)) used
@@ -233,21 +179,13 @@ defrag_after-paid collector new used phase some pages none roomy class fits next
     words = size_at collector.table (page_number place)
 
     go : (past : Bool) → is_past new.table new.cursor ≡ past → IsPaid 1 (1 + used) (steps_left Defrag collector) (units_left Defrag collector) (if past then cycle_end new else new)
-    go true e = record {
-      under = record { some_page = omega (arith, pages); sound = none_grey (cycle_end new) none roomy; stage = none };
-      steps_paid = omega arith;
-      units_paid = omega (arith, movable-fits (length collector.table) (page_number place) (slot_number place) words used fits);
-    }
+    go true e = grind (arith, none_grey (cycle_end new) none roomy, none)
     go false e =
         let inside' : new.cursor < 64 * length new.table = not_past new.table new.cursor e in
         let page_inside : page_number new.cursor < length collector.table = omega (arith, pages, leb-false (length new.table) (page_number new.cursor) e) in
         let less = movable-used (length collector.table) (page_number place) (slot_number place) words (page_number new.cursor) (slot_number new.cursor) (size_at new.table (page_number new.cursor)) used next.position page_inside (λ same. ap (size_at new.table) same ∙ class) fits in
         let less' : movable_words new + used ≤ movable_words collector = subst (λ n. movable n (page_number new.cursor) (slot_number new.cursor) (size_at new.table (page_number new.cursor)) + used ≤ movable_words collector) (sym pages) less in
-        record {
-          under = record { some_page = omega (arith, pages); sound = none_grey new none roomy; stage = subst (λ p. StageOf p new) (sym phase) (none, inside') };
-          steps_paid = subst (λ p. steps_left p new + 1 ≤ steps_left Defrag collector) (sym phase) (omega (arith, pages, next.further, inside'));
-          units_paid = subst (λ p. units_left p new + (1 + used) ≤ units_left Defrag collector) (sym phase) (omega (arith, pages, next.further, inside', less'));
-        }
+        grind (arith, none_grey new none roomy)
 
 move_fits : (table : Table Block) (place : ℕ) (move : Move) → IsRoomy table → IsNextMove table place move → FitsPage (slot_number place) (size_at table (page_number place)) move.class_size
 move_fits table place move roomy is =
@@ -256,8 +194,7 @@ move_fits table place move roomy is =
     let words : size_at table (page_number place) ≡ page.class_size = ap (λ p. unwrap_or (option_map (λ q. q.class_size) p) 0) is.in_use in
     let inside : slot_number place < length page.slots = below_length page.slots (slot_number place) move.block is.there in
     let room : page.class_size * suc (slot_number place) ≤ page.class_size * length page.slots = mul-le-mul_left page.class_size inside in
-    let split : page.class_size * suc (slot_number place) ≡ page.class_size * slot_number place + page.class_size = mul-suc page.class_size (slot_number place) in
-    inr (sym is.class ∙ sym words, rw words (omega (arith, room, split, own.words)))
+    inr (sym is.class ∙ sym words, rw words (omega (arith, room, own.words)))
 
 defrag-paid : (collector : Collector) → 0 < length collector.table → IsGreySound (marking_of collector) → StageOf Defrag collector
     → IsPaid 1 (cost_in Defrag collector true) (steps_left Defrag collector) (units_left Defrag collector) (phase_after Defrag (step_in Defrag collector))

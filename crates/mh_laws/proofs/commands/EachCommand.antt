@@ -1,16 +1,12 @@
 -- What commands carry on: a relation of tables, or of collectors, that each write of one block or slot keeps.
 -- It is carried through shading, marking and barriers, and so through the twelve commands, if making an object's parts keeps it too.
 -- A file that has such a relation says what writes do to it, and takes the walk over the commands from here.
-use Rattle.std.proofs.Common.{◌≡◌, ℕ, zero, suc, Bool, true, false, if◌then◌else◌, Option, Some, None, option_map, unwrap_or, List, [], ◌∷◌, get_or, set, refl}
-use Rattle.mh_model.specs.declared.command.Command.{Command}
-use Rattle.mh_model.specs.declared.command.Command.TheVariants as command
-use Rattle.mh_model.specs.declared.reply.Refusal.{Refusal}
-use Rattle.mh_model.specs.World.{own_slot, board_slot, refusal, unless_refused}
+use Rattle.std.proofs.Common.{◌≡◌, ℕ, zero, suc, Bool, true, if◌then◌else◌, Option, Some, None, option_map, unwrap_or, List, [], ◌∷◌, set, refl, arith}
+use Rattle.mh_model.specs.{declared.command.Command.Command, World.{own_slot, refusal}}
 use Rattle.mh_model.specs.Pages.{Table, block_at, with_block}
-use Rattle.mh_model.specs.Table.{Block, Made, Position, references_at, with_reference_at, with_number_at, resolve, target_of, number_index, reference_in, loaded_reference}
-use Rattle.mh_model.specs.Collector.{Collector, Marking, is_marked, with_grey, shade_block, shade, mark_reference, mark_references, mark_first, marking_of, with_shade}
-use Rattle.mh_model.specs.Mutator.{HeapState, in_roots, in_roots_or_mark, before_root, before_field, with_root, with_roots_cleared, with_session_cleared, with_reference_stored, with_number_stored, root_at, field_of, number_field, new_group, with_born, heap_sight, heap_effect, mutator_step}
-use Rattle.mh_laws.proofs.marking.BlockChanges.{roots_mark}
+use Rattle.mh_model.specs.Table.{Block, Made, Position, references_at, with_reference_at, with_number_at, target_of, number_index}
+use Rattle.mh_model.specs.Collector.{Collector, Marking, shade_block, shade, mark_reference, mark_references, mark_first, marking_of, with_shade}
+use Rattle.mh_model.specs.Mutator.{HeapState, in_roots_or_mark, before_field, with_root, with_roots_cleared, with_session_cleared, with_reference_stored, with_number_stored, number_field, new_group, with_born, heap_sight, heap_effect, mutator_step}
 
 -- Tables -----------------------------------------------------------------------------------------
 
@@ -24,16 +20,10 @@ pub record IsKeptByWrites (R : Table Block → Table Block → Type 0) : Type 0 
 
 module _ (R : Table Block → Table Block → Type 0) (kept : IsKeptByWrites R) where
   shade_block-each : (marking : Marking) (place : ℕ) (block : Option Block) → block_at marking.table place ≡ block → R marking.table (shade_block marking place block).table
-  shade_block-each marking place None at = kept.same marking.table
-  shade_block-each marking place (Some block) at = go (is_marked marking.cycle block)
-    where
-      go : (marked : Bool) → R marking.table (if marked then marking else with_grey marking place block).table
-      go true = kept.same marking.table
-      go false = kept.stamped marking.table place block marking.cycle at
+  shade_block-each marking place block at = grind arith
 
   pub shade-each : (marking : Marking) (reference : Option ℕ) → R marking.table (shade marking reference).table
-  shade-each marking None = kept.same marking.table
-  shade-each marking (Some place) = shade_block-each marking (resolve marking.table place) (block_at marking.table (resolve marking.table place)) refl
+  shade-each marking reference = grind arith
 
   mark_references-each : (marking : Marking) (place index : ℕ) (references : List (Option ℕ)) → R marking.table (mark_references marking place index references).table
   mark_references-each marking place index [] = kept.same marking.table
@@ -73,14 +63,10 @@ over_tables R kept = record {
 
 module _ (R : Collector → Collector → Type 0) (kept : IsKeptByCommands R) where
   barrier-each : (test : Bool) (collector : Collector) (reference : Option ℕ) → (test ≡ true → in_roots_or_mark collector.phase ≡ true) → R collector (if test then with_shade collector reference else collector)
-  barrier-each true collector reference inside = kept.shaded collector reference (inside refl)
-  barrier-each false collector reference inside = kept.same collector
+  barrier-each test collector reference inside = grind arith
 
   pub with_root-each : (collector : Collector) (slot : ℕ) (reference : Option ℕ) → R collector (with_root collector slot reference)
-  with_root-each collector slot reference =
-      kept.joined collector (before_root collector slot) (with_root collector slot reference)
-      (barrier-each (in_roots collector.phase) collector (get_or collector.slots slot None) (roots_mark collector.phase))
-      (kept.rooted (before_root collector slot) slot reference)
+  with_root-each collector slot reference = grind arith
 
   with_roots_cleared-each : (count : ℕ) (collector : Collector) (slot : ℕ) → R collector (with_roots_cleared collector slot count)
   with_roots_cleared-each zero collector slot = kept.same collector
@@ -93,10 +79,7 @@ module _ (R : Collector → Collector → Type 0) (kept : IsKeptByCommands R) wh
   with_session_cleared-each collector who = with_roots_cleared-each 16 collector (own_slot who 0)
 
   with_reference_stored-each : (collector : Collector) (position : Position) (reference : Option ℕ) → R collector (with_reference_stored collector position reference)
-  with_reference_stored-each collector position reference =
-      kept.joined collector (before_field collector position) (with_reference_stored collector position reference)
-      (barrier-each (in_roots_or_mark collector.phase) collector (reference_in collector.table position) (λ inside. inside))
-      (kept.referred (before_field collector position) position reference)
+  with_reference_stored-each collector position reference = grind (arith, kept.referred (before_field collector position) position reference)
 
   -- what a new object is to keep: the relation of its heap's collector and of that with its parts in the table
   abbrev IsKeptByParts : HeapState → Option Made → Type 0
@@ -109,24 +92,19 @@ module _ (R : Collector → Collector → Type 0) (kept : IsKeptByCommands R) wh
       kept.joined heap.collector placed (with_root placed slot (Some made.place)) (parts made refl) (with_root-each placed slot (Some made.place))
 
   -- Each command keeps the relation, if a new object's parts do
-  pub heap_effect-each : (heap : HeapState) (who : ℕ) (c : Command) → ((slot references numbers : ℕ) → c ≡ command.New slot references numbers → IsKeptByParts heap (new_group heap references numbers)) → R heap.collector (heap_effect heap who c).state.collector
+  pub heap_effect-each : (heap : HeapState) (who : ℕ) (c : Command) → ((slot references numbers : ℕ) → c ≡ Command.New slot references numbers → IsKeptByParts heap (new_group heap references numbers)) → R heap.collector (heap_effect heap who c).state.collector
   unfolding heap_effect
-  heap_effect-each heap who (command.New slot references numbers) parts = born-each heap (own_slot who slot) (new_group heap references numbers) (parts slot references numbers refl)
-  heap_effect-each heap who (command.Get slot source field) parts = with_root-each heap.collector (own_slot who slot) (loaded_reference heap.collector.table (field_of heap (own_slot who source) field))
-  heap_effect-each heap who (command.Put slot field value) parts = with_reference_stored-each heap.collector (field_of heap (own_slot who slot) field) (root_at heap (own_slot who value))
-  heap_effect-each heap who (command.Copy slot source) parts = with_root-each heap.collector (own_slot who slot) (root_at heap (own_slot who source))
-  heap_effect-each heap who (command.Clear slot) parts = with_root-each heap.collector (own_slot who slot) None
-  heap_effect-each heap who (command.Write slot index number) parts = kept.numbered heap.collector (number_field heap (own_slot who slot) index) number
-  heap_effect-each heap who (command.Post board slot) parts = with_root-each heap.collector (board_slot board) (root_at heap (own_slot who slot))
-  heap_effect-each heap who (command.Take slot board) parts = with_root-each heap.collector (own_slot who slot) (root_at heap (board_slot board))
-  heap_effect-each heap who command.End parts = with_session_cleared-each heap.collector who
-  heap_effect-each heap who other parts = kept.same heap.collector
+  heap_effect-each heap who (Command.New slot references numbers) parts = born-each heap (own_slot who slot) (new_group heap references numbers) (parts slot references numbers refl)
+  heap_effect-each heap who (Command.Get slot source field) parts = grind arith
+  heap_effect-each heap who (Command.Put slot field value) parts = search (arith, with_reference_stored-each)
+  heap_effect-each heap who (Command.Copy slot source) parts = grind arith
+  heap_effect-each heap who (Command.Clear slot) parts = with_root-each heap.collector (own_slot who slot) None
+  heap_effect-each heap who (Command.Write slot index number) parts = kept.numbered heap.collector (number_field heap (own_slot who slot) index) number
+  heap_effect-each heap who (Command.Post board slot) parts = grind arith
+  heap_effect-each heap who (Command.Take slot board) parts = grind arith
+  heap_effect-each heap who other parts = grind (arith, with_session_cleared-each)
 
   -- and so it is with its refusals, since what is refused changes nothing
   pub mutator_step-each : (heap : HeapState) (who : ℕ) (c : Command) → (refusal (heap_sight heap) who c ≡ None → R heap.collector (heap_effect heap who c).state.collector) → R heap.collector (mutator_step heap who c).state.collector
   unfolding mutator_step
-  mutator_step-each heap who c done = go (refusal (heap_sight heap) who c) refl
-    where
-      go : (refused : Option Refusal) → refusal (heap_sight heap) who c ≡ refused → R heap.collector (unless_refused refused heap (heap_effect heap who c)).state.collector
-      go None is = done is
-      go (Some refused) is = kept.same heap.collector
+  mutator_step-each heap who c done = grind arith

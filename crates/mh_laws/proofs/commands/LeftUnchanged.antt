@@ -1,39 +1,28 @@
 -- What commands, steps, quanta and events leave as it was: the collector's course, the pages, and the heap of a refused command.
-use Rattle.std.proofs.Common.{◌≡◌, ℕ, zero, suc, ◌+◌, ◌-◌, ◌==◌, nat_lt, Bool, true, false, ◌||◌, if◌then◌else◌, inl, inr, Option, Some, None, option_and_then, option_map, List, [], ◌∷◌, length, get_or, set, slice_get, ◌<◌, ◌≤◌, refl, sym, ap, ◌∙◌, subst, arith, nat_le, is_none}
-use Rattle.std.proofs.lemmas.Bool.{cases_Bool, ltb-false}
-use Rattle.std.proofs.lemmas.List.{length-replicate, length-set}
+use Rattle.std.proofs.Common.{◌≡◌, ℕ, zero, suc, ◌+◌, ◌-◌, nat_lt, Bool, true, false, ◌||◌, if◌then◌else◌, inl, inr, Option, Some, None, option_and_then, option_map, List, [], ◌∷◌, length, set, slice_get, ◌<◌, ◌≤◌, refl, sym, ap, ◌∙◌, subst, arith, nat_le}
+use Rattle.std.proofs.{lemmas.Bool.{cases_Bool, ltb-false}, lemmas.List.{length-replicate, length-set}}
 use Rattle.std.proofs.lemmas.Option.{none-some, same_Some}
-use Rattle.mh_model.specs.declared.command.Command.{Command}
-use Rattle.mh_model.specs.declared.command.Command.TheVariants as command
-use Rattle.mh_model.specs.declared.command.Event.{Event}
-use Rattle.mh_model.specs.declared.config.Config.{Config}
-use Rattle.mh_model.specs.declared.cycle.Phase.{Phase}
+use Rattle.mh_model.specs.{declared.command.Command.Command, declared.command.Event.Event}
+use Rattle.mh_model.specs.{declared.config.Config.Config, declared.cycle.Phase.Phase}
 use Rattle.mh_model.specs.declared.cycle.Phase.TheVariants.{Idle, Roots, Mark, Sweep, Defrag}
-use Rattle.mh_model.specs.declared.reply.Refusal.{Refusal}
-use Rattle.mh_model.specs.declared.reply.Refusal.TheVariants.{BadSlot, TooLarge, HeapFull, Ended, TooManySessions}
-use Rattle.mh_model.specs.declared.reply.Reply.TheVariants as reply
-use Rattle.mh_model.specs.World.{refusal, unless_refused, most_fields, first_refusal, is_bad}
-use Rattle.mh_model.specs.Classes.{Part, class_of, part_words, parts, slots_in, is_class_size}
-use Rattle.mh_model.specs.Pages.{Page, Table, page_number, slot_number, page_at, block_in, least_place, page_with, with_taken, HasItsSlots}
+use Rattle.mh_model.specs.{declared.reply.Refusal.Refusal, declared.reply.Reply.Reply}
+use Rattle.mh_model.specs.World.{refusal, unless_refused, most_fields}
+use Rattle.mh_model.specs.Classes.{Part, class_of, part_words, parts, is_class_size}
+use Rattle.mh_model.specs.Pages.{Page, Table, page_number, slot_number, block_in, least_place, page_with, with_taken, HasItsSlots}
 use Rattle.mh_model.specs.Table.{Block, IsWithinLimits, HasSmallBlocks, number_index, Made, MadeParts, with_reference_at, with_number_at, new_block, made_in_class, made_parts, with_block_change, linked_block, linked_parts, group_of, made_group}
-use Rattle.mh_model.specs.Collector.{Collector, first_collector, Marking, shade, mark_first, is_last_slot, survivor, judged_page, swept_page, swept_table, next_move, Move, with_move, with_phase, marking_of, after_mark, is_past, step_in, phase_after, collector_step, step_cost, is_moving, is_idle, cycle_end, quantum_start, Spending, steps, quantum}
-use Rattle.mh_model.specs.Mutator.{HeapState, new_group, heap_sight, heap_effect, mutator_step}
+use Rattle.mh_model.specs.Collector.{Collector, first_collector, Marking, shade, mark_first, is_last_slot, survivor, judged_page, swept_page, swept_table, next_move, Move, with_move, marking_of, step_in, phase_after, collector_step, step_cost, is_moving, is_idle, quantum_start, Spending, steps, quantum}
+use Rattle.mh_model.specs.Mutator.{HeapState, heap_sight, heap_effect, mutator_step}
 use Rattle.mh_model.specs.Machine.{Machine, first_machine, with_collector, quantum_run, command_step, machine_after}
 use Rattle.mh_model.specs.Invariant.{HasItsPages}
-use Rattle.mh_model.specs.Limits.{root_slots}
 use Rattle.mh_table_laws.specs.Tables.{KeepsItsPages}
-use Rattle.mh_laws.specs.Tables.{EventKeeps, TablesKeepTheirPages}
-use Rattle.mh_laws.specs.Commands.{IsOnCourse}
+use Rattle.mh_laws.specs.{Tables.{EventKeeps, TablesKeepTheirPages}, Commands.IsOnCourse}
 use Rattle.mh_table_laws.proofs.Lists.{none_at}
-use Rattle.mh_table_laws.proofs.marking.StandingStill.{after_mark-table}
 use Rattle.mh_table_laws.proofs.tables.PageSlots.{IsSmallPage, class_of-class_size, judged_page-is, page_with-slots, page_with-small, small_page, small_block, same_limits, keeps_same, keeps_then, set-keeps, with_block-slots, with_block-limits, with_block-keeps, change-keeps, with_taken-keeps}
+use Rattle.mh_table_laws.proofs.objects.Parts.{some_parts, few_fields, small_parts}
+use Rattle.mh_table_laws.proofs.tables.BlockRoom.{class_of-is, class_of-fits}
 use Rattle.mh_laws.proofs.commands.EachCommand.{IsKeptByWrites, IsKeptByCommands, shade-each, mark_first-each, heap_effect-each, mutator_step-each}
 use Rattle.mh_laws.proofs.runs.EveryMoment.{config-mutator_step, half_step-keeps, event_step-keeps, machine_after-keeps}
-use Rattle.mh_laws.proofs.costs.Quanta.{steps-stop, steps-go}
-use Rattle.mh_laws.proofs.moving.NextMove.{IsNextMove, next_move-is}
-use Rattle.mh_table_laws.proofs.objects.Parts.{some_parts, few_fields, small_parts}
-use Rattle.mh_table_laws.proofs.tables.BlockRoom.{class_of-is, class_of-fits, survivor-same}
-use Rattle.mh_laws.proofs.costs.QuantumStarts.{begins}
+use Rattle.mh_laws.proofs.{costs.Quanta.{steps-stop, steps-go}, moving.NextMove.{IsNextMove, next_move-is}}
 
 -- New objects ------------------------------------------------------------------------------------
 
@@ -61,39 +50,19 @@ made_group-fields table birth stamp references numbers made e = by_parts (made_p
 
 -- what follows a step leaves the table
 table-if : (test : Bool) (collector other : Collector) → other.table ≡ collector.table → (if test then other else collector).table ≡ collector.table
-table-if true collector other e = e
-table-if false collector other e = refl
+table-if test collector other e = grind arith
 
 pub table-phase_after : (phase : Phase) (collector : Collector) → (phase_after phase collector).table ≡ collector.table
-table-phase_after Idle collector = refl
-table-phase_after Roots collector = table-if (collector.cursor == root_slots) collector (after_mark collector collector.grey) (after_mark-table collector collector.grey)
-table-phase_after Mark collector = after_mark-table collector collector.grey
-table-phase_after Sweep collector = table-if (is_past collector.table collector.cursor) collector (with_phase collector Defrag 0) refl
-table-phase_after Defrag collector = table-if (is_past collector.table collector.cursor) collector (cycle_end collector) refl
+table-phase_after phase collector = grind arith
 
 pub table-quantum_start : (config : Config) (collector : Collector) → (quantum_start config collector).table ≡ collector.table
-table-quantum_start config collector = elim (begins config collector).case [
-  | inl starts ↦ ap (λ c. c.table) starts.2
-  | inr other ↦ elim other [ inl runs ↦ ap (λ c. c.table) runs.1 | inr rests ↦ ap (λ c. c.table) rests.2 ]
-]
+table-quantum_start config collector = grind arith
 
 judged_page-slots : (table : Table Block) (number : ℕ) (page new : Page Block) → HasItsSlots page → judged_page table number page ≡ Some new → HasItsSlots new
-judged_page-slots table number page new has e =
-    let judged = judged_page-is table number page new e in
-    record { class = ap is_class_size judged.class ∙ has.class; slots = ap length judged.slots ∙ has.slots ∙ ap slots_in (sym judged.class) }
+judged_page-slots table number page new has e = grind arith
 
 swept_page-slots : (cycle : ℕ) (table : Table Block) (place : ℕ) (page new : Page Block) → HasItsSlots page → swept_page cycle table place page ≡ Some new → HasItsSlots new
-swept_page-slots cycle table place page new has e = go (is_last_slot place page) e
-  where
-    swept : Page Block
-    swept = page_with (slot_number place) (option_and_then (survivor cycle) (block_in (slot_number place) page)) page
-
-    swept_has : HasItsSlots swept
-    swept_has = page_with-slots page (slot_number place) (option_and_then (survivor cycle) (block_in (slot_number place) page)) has
-
-    go : (last : Bool) → (if last then judged_page table (page_number place) swept else Some swept) ≡ Some new → HasItsSlots new
-    go true h = judged_page-slots table (page_number place) swept new swept_has h
-    go false h = subst HasItsSlots (same_Some swept new h) swept_has
+swept_page-slots cycle table place page new has e = grind (arith, page_with-slots, judged_page-slots, same_Some)
 
 -- If the objects that are made have at most so many fields
 module _ (room : ℕ) where
@@ -155,11 +124,10 @@ module _ (room : ℕ) where
       by_class (Some size) is h more = by_place size is (least_place table size) h more
 
   linked_parts-keeps : (all places : List ℕ) (parts : List Part) (table : Table Block) → KeepsItsPages room table (linked_parts all table places parts)
-  linked_parts-keeps all [] parts table = keeps_same room table
-  linked_parts-keeps all (place ∷ places) [] table = keeps_same room table
   linked_parts-keeps all (place ∷ places) (part ∷ parts) table =
       let one : Table Block = with_block_change table place (linked_block all part) in
       keeps_then room table one (linked_parts all one places parts) (change-keeps room table place _ (λ block. (refl, refl))) (linked_parts-keeps all places parts one)
+  linked_parts-keeps all places parts table = keeps_same room table
 
   group_of-keeps : (table : Table Block) (places : List ℕ) (parts : List Part) (made : Made) → group_of table places parts ≡ Some made → KeepsItsPages room table made.table
   group_of-keeps table [] parts made e = absurd (none-some made e)
@@ -175,19 +143,19 @@ module _ (room : ℕ) where
 
       go : (all : Option MadeParts) → made_parts table birth stamp 0 (parts references numbers) ≡ all → option_and_then (λ m. group_of m.table m.places (parts references numbers)) all ≡ Some made → KeepsItsPages room table made.table
       go None is h = absurd (none-some made h)
-      go (Some all) is h = keeps_then room table all.table made.table (made_parts-keeps (parts references numbers) table birth stamp 0 all few is) (group_of-keeps all.table all.places (parts references numbers) made h)
+      go (Some all) is h = search (arith, keeps_then, made_parts-keeps, few, group_of-keeps)
 
   -- Commands -------------------------------------------------------------------------------------
 
   on_course : (collector : Collector) → IsOnCourse room collector collector
-  on_course collector = record { pages = refl; slots = λ slots. slots; limits = λ most large small. small; phase = refl; cursor = refl; cycle = refl; is_asked = refl; quanta = refl }
+  on_course collector = grind arith
 
   then_on_course : (first second third : Collector) → IsOnCourse room first second → IsOnCourse room second third → IsOnCourse room first third
   then_on_course first second third one two = record { pages = two.pages ∙ one.pages; slots = λ slots. two.slots (one.slots slots); limits = λ most large small. two.limits most large (one.limits most large small); phase = two.phase ∙ one.phase; cursor = two.cursor ∙ one.cursor; cycle = two.cycle ∙ one.cycle; is_asked = two.is_asked ∙ one.is_asked; quanta = two.quanta ∙ one.quanta }
 
   -- a collector with another table whose pages are kept, and with another grey list and other slots
   other_table : (collector : Collector) (table : Table Block) (grey : List ℕ) (slots : List (Option ℕ)) → KeepsItsPages room collector.table table → IsOnCourse room collector (record collector { table = table; grey = grey; slots = slots })
-  other_table collector table grey slots pages = record { pages = pages.pages; slots = pages.slots; limits = pages.limits; phase = refl; cursor = refl; cycle = refl; is_asked = refl; quanta = refl }
+  other_table collector table grey slots pages = grind arith
 
   course : IsKeptByCommands (IsOnCourse room)
   course = record {
@@ -211,21 +179,16 @@ module _ (room : ℕ) where
       swept_small = page_with-small most page (slot_number place) _ small (λ block left. by_slot (block_in (slot_number place) page) refl block left)
         where
           by_slot : (content : Option Block) → block_in (slot_number place) page ≡ content → (block : Block) → option_and_then (survivor cycle) content ≡ Some block → IsWithinLimits most block
-          by_slot None at block left = absurd (none-some block left)
-          by_slot (Some old) at block left = subst (IsWithinLimits most) (survivor-same cycle old block left) (small.blocks (slot_number place) old at)
+          by_slot content at block left = grind arith
 
       go : (last : Bool) → (if last then judged_page table (page_number place) swept else Some swept) ≡ Some new → IsSmallPage most new
-      go true h = record { blocks = λ slot block at. swept_small.blocks slot block (ap (λ slots. get_or slots slot None) (sym (judged_page-is table (page_number place) swept new h).slots) ∙ at) }
-      go false h = subst (IsSmallPage most) (same_Some swept new h) swept_small
+      go last h = search (arith, judged_page-is, swept, same_Some, swept_small)
 
   swept_table-keeps : (cycle : ℕ) (table : Table Block) (place : ℕ) → KeepsItsPages room table (swept_table cycle table place)
-  swept_table-keeps cycle table place =
-      set-keeps room table (page_number place) _ (λ shaped new e. slots (page_at table (page_number place)) (λ p at. shaped (page_number place) p at) new e)
-      (λ most large small new e. limits most (page_at table (page_number place)) (λ p at. small_page most table (page_number place) p small at) new e)
+  swept_table-keeps cycle table place = search (arith, set-keeps, slots, limits, small_page)
     where
       slots : (content : Option (Page Block)) → ((p : Page Block) → content ≡ Some p → HasItsSlots p) → (new : Page Block) → option_and_then (swept_page cycle table place) content ≡ Some new → HasItsSlots new
-      slots None has new e = absurd (none-some new e)
-      slots (Some page) has new e = swept_page-slots cycle table place page new (has page refl) e
+      slots content has new e = grind (arith, none-some, swept_page-slots)
 
       limits : (most : ℕ) (content : Option (Page Block)) → ((p : Page Block) → content ≡ Some p → IsSmallPage most p) → (new : Page Block) → option_and_then (swept_page cycle table place) content ≡ Some new → IsSmallPage most new
       limits most None small new e = absurd (none-some new e)
@@ -249,7 +212,7 @@ module _ (room : ℕ) where
       one = next_move-is collector.table collector.cursor move is
 
       moved : (most : ℕ) → room ≤ most → HasSmallBlocks most collector.table → IsWithinLimits most move.block
-      moved most large small = small.blocks (page_number collector.cursor) (slot_number collector.cursor) one.page move.block one.in_use one.there
+      moved most large small = grind arith
 
       first : KeepsItsPages room collector.table taken
       first = with_taken-keeps room collector.table move.class_size move.target move.block (λ shaped. ap is_class_size (sym one.class) ∙ (shaped (page_number collector.cursor) one.page one.in_use).class) moved
@@ -264,7 +227,7 @@ module _ (room : ℕ) where
   -- A step keeps the pages
   pub collector_step-keeps : (collector : Collector) → KeepsItsPages room collector.table (collector_step collector).table
   unfolding collector_step
-  collector_step-keeps collector = rw (table-phase_after collector.phase (step_in collector.phase collector)) (step_in-keeps collector.phase collector)
+  collector_step-keeps collector = search (arith, table-phase_after, step_in-keeps)
 
   pub steps-keeps : (more left : ℕ) (has_moved : Bool) (collector : Collector) → KeepsItsPages room collector.table (steps more left has_moved collector).collector.table
   unfolding steps
@@ -292,36 +255,19 @@ mutator_step-course heap who c =
     let fields = allowed slot references numbers (ap (refusal (heap_sight heap) who) (sym is) ∙ allows) in
     other_table room heap.collector made.table heap.collector.grey heap.collector.slots (made_group-keeps room heap.collector.table heap.next_birth heap.collector.cycle references numbers made fields e)))
   where
-    allowed : (slot references numbers : ℕ) → refusal (heap_sight heap) who (command.New slot references numbers) ≡ None → references + numbers ≤ most_fields heap.config
-    allowed slot references numbers e =
-        ltb-false (most_fields heap.config) (references + numbers) (by_tests (nat_le 8 who) (get_or heap.ended who false) (is_bad slot) (nat_lt (most_fields heap.config) (references + numbers)) (is_none (new_group heap references numbers)) e)
-      where
-        by_tests : (many ended bad large full : Bool) → first_refusal ((many, TooManySessions) ∷ (ended, Ended) ∷ (bad, BadSlot) ∷ (large, TooLarge) ∷ (full, HeapFull) ∷ []) ≡ None → large ≡ false
-        by_tests true ended bad large full h = absurd (none-some TooManySessions (sym h))
-        by_tests false true bad large full h = absurd (none-some Ended (sym h))
-        by_tests false false true large full h = absurd (none-some BadSlot (sym h))
-        by_tests false false false true full h = absurd (none-some TooLarge (sym h))
-        by_tests false false false false full h = refl
+    allowed : (slot references numbers : ℕ) → refusal (heap_sight heap) who (Command.New slot references numbers) ≡ None → references + numbers ≤ most_fields heap.config
+    allowed slot references numbers e = grind (arith, ltb-false, nat_le, none-some)
 
-effect-refused : (heap : HeapState) (who : ℕ) (command : Command) (refused : Refusal) → (heap_effect heap who command).reply ≡ reply.Refused refused → (heap_effect heap who command).state ≡ heap
+effect-refused : (heap : HeapState) (who : ℕ) (command : Command) (refused : Refusal) → (heap_effect heap who command).reply ≡ Reply.Refused refused → (heap_effect heap who command).state ≡ heap
 unfolding heap_effect
-effect-refused heap who (command.New slot references numbers) refused e = cc
-effect-refused heap who (command.Get slot source field) refused e = cc
-effect-refused heap who (command.Put slot field value) refused e = cc
-effect-refused heap who (command.Copy slot source) refused e = cc
-effect-refused heap who (command.Clear slot) refused e = cc
-effect-refused heap who (command.Read slot index) refused e = refl
-effect-refused heap who (command.Write slot index number) refused e = cc
-effect-refused heap who (command.Same left right) refused e = refl
-effect-refused heap who (command.Shape slot) refused e = refl
-effect-refused heap who asked refused e = cc
+effect-refused heap who asked refused e = grind arith
 
 -- A command that is answered by a refusal leaves the heap as it was
-pub mutator_step-refused : (heap : HeapState) (who : ℕ) (command : Command) (refused : Refusal) → (mutator_step heap who command).reply ≡ reply.Refused refused → (mutator_step heap who command).state ≡ heap
+pub mutator_step-refused : (heap : HeapState) (who : ℕ) (command : Command) (refused : Refusal) → (mutator_step heap who command).reply ≡ Reply.Refused refused → (mutator_step heap who command).state ≡ heap
 unfolding mutator_step
 mutator_step-refused heap who command refused e = go (refusal (heap_sight heap) who command) e
   where
-    go : (answer : Option Refusal) → (unless_refused answer heap (heap_effect heap who command)).reply ≡ reply.Refused refused → (unless_refused answer heap (heap_effect heap who command)).state ≡ heap
+    go : (answer : Option Refusal) → (unless_refused answer heap (heap_effect heap who command)).reply ≡ Reply.Refused refused → (unless_refused answer heap (heap_effect heap who command)).state ≡ heap
     go None h = effect-refused heap who command refused h
     go (Some answer) h = refl
 
@@ -329,11 +275,11 @@ mutator_step-refused heap who command refused e = go (refusal (heap_sight heap) 
 
 quantum_run-keeps : (machine : Machine) → KeepsItsPages (most_fields machine.heap.config) machine.heap.collector.table (quantum_run machine).state.heap.collector.table
 unfolding quantum_run
-quantum_run-keeps machine = quantum-keeps (most_fields machine.heap.config) machine.heap.config machine.heap.collector
+quantum_run-keeps machine = search (arith, quantum-keeps)
 
 command_step-keeps : (machine : Machine) (who : ℕ) (command : Command) → KeepsItsPages (most_fields machine.heap.config) machine.heap.collector.table (command_step machine who command).state.heap.collector.table
 unfolding command_step
-command_step-keeps machine who command = let course = mutator_step-course machine.heap who command in record { pages = course.pages; slots = course.slots; limits = course.limits }
+command_step-keeps machine who command = grind (arith, mutator_step-course machine.heap who command)
 
 -- the pages of this table are kept by what happens to a machine of this configuration
 module _ (config : Config) (table : Table Block) where

@@ -1,15 +1,10 @@
 -- Quanta: what they spend, what their steps cost, and that the count of steps never runs out.
-use Rattle.std.proofs.Common.{◌≡◌, ℕ, zero, suc, ◌-◌, ◌<◌, ◌≤◌, Bool, true, false, ◌||◌, nat_lt, inl, inr, Option, Some, None, List, [], ◌∷◌, refl, sym, ap, ◌∙◌, arith}
-use Rattle.std.proofs.lemmas.Bool.{cases_Bool, ltb-false, or_parts, true≢false, true_from_ne_false}
-use Rattle.mh_model.specs.declared.config.Config.{Config}
-use Rattle.mh_model.specs.declared.cycle.Phase.{Phase}
-use Rattle.mh_model.specs.declared.cycle.Phase.TheVariants.{Idle, Roots, Mark, Sweep, Defrag}
-use Rattle.mh_model.specs.Pages.{Table, page_number}
-use Rattle.mh_model.specs.Table.{Block}
-use Rattle.mh_laws.proofs.moving.NextMove.{next_move-is}
-use Rattle.mh_table_laws.specs.Tables.{IsSized}
+use Rattle.std.proofs.Common.{◌≡◌, ℕ, zero, suc, ◌-◌, ◌<◌, ◌≤◌, Bool, true, false, ◌||◌, nat_lt, inl, inr, Option, Some, List, refl, sym, ap, ◌∙◌, arith}
+use Rattle.std.proofs.lemmas.Bool.{cases_Bool, ltb-false, or_parts, true_from_ne_false}
+use Rattle.mh_model.specs.{declared.config.Config.Config, declared.cycle.Phase.Phase, Pages.Table, Table.Block}
 use Rattle.mh_model.specs.Collector.{Collector, Move, first_mark_cost, next_move, move_cost, cost_in, step_cost, is_moving, collector_step, is_idle, with_units, quantum_start, steps, quantum}
 use Rattle.mh_model.specs.Limits.{least_quantum}
+use Rattle.mh_table_laws.specs.Tables.{IsSized}
 
 -- steps stop, or one is taken
 pub steps-stop : (more left : ℕ) (has_moved : Bool) (collector : Collector) → (is_idle collector.phase || nat_lt left (step_cost collector has_moved)) ≡ true → steps (suc more) left has_moved collector ≡ record { units = 0; collector = collector }
@@ -41,20 +36,13 @@ units-quantum config collector = units-steps config.quantum config.quantum false
 -- Costs ------------------------------------------------------------------------------------------
 
 first_mark_cost-positive : (table : Table Block) (grey : List ℕ) → 0 < first_mark_cost table grey
-first_mark_cost-positive table [] = omega arith
-first_mark_cost-positive table (place ∷ grey) = omega arith
+first_mark_cost-positive table grey = grind arith
 
 move_cost-positive : (has_moved : Bool) (move : Option Move) → 0 < move_cost has_moved move
-move_cost-positive has_moved None = omega arith
-move_cost-positive true (Some move) = omega arith
-move_cost-positive false (Some move) = omega arith
+move_cost-positive has_moved move = grind arith
 
 cost_in-positive : (phase : Phase) (collector : Collector) (has_moved : Bool) → is_idle phase ≡ false → 0 < cost_in phase collector has_moved
-cost_in-positive Idle collector has_moved runs = absurd (true≢false runs)
-cost_in-positive Roots collector has_moved runs = omega arith
-cost_in-positive Mark collector has_moved runs = first_mark_cost-positive collector.table collector.grey
-cost_in-positive Sweep collector has_moved runs = omega arith
-cost_in-positive Defrag collector has_moved runs = move_cost-positive has_moved (next_move collector.table collector.cursor)
+cost_in-positive phase collector has_moved runs = grind arith
 
 -- While a cycle runs the next step costs at least 1
 pub step_cost-positive : (collector : Collector) (has_moved : Bool) → is_idle collector.phase ≡ false → 0 < step_cost collector has_moved
@@ -62,21 +50,16 @@ unfolding step_cost
 step_cost-positive collector has_moved runs = cost_in-positive collector.phase collector has_moved runs
 
 first_mark_cost-bounded : (table : Table Block) → IsSized table → (grey : List ℕ) → first_mark_cost table grey ≤ 61
-first_mark_cost-bounded table sized [] = omega arith
-first_mark_cost-bounded table sized (place ∷ grey) = omega (arith, sized.references place)
+first_mark_cost-bounded table sized grey = grind arith
 
 move_cost-bounded : (has_moved : Bool) (move : Option Move) → ((m : Move) → move ≡ Some m → m.class_size ≤ 64) → move_cost has_moved move ≤ least_quantum
-move_cost-bounded has_moved None small = omega arith
-move_cost-bounded true (Some move) small = omega (arith, small move refl)
-move_cost-bounded false (Some move) small = omega (arith, small move refl)
+move_cost-bounded has_moved move small = grind arith
 
 next_move-small : (table : Table Block) (place : ℕ) → IsSized table → (move : Move) → next_move table place ≡ Some move → move.class_size ≤ 64
-next_move-small table place sized move e = let is = next_move-is table place move e in rw (← is.class) (sized.classes (page_number place) is.page is.in_use)
+next_move-small table place sized move e = grind arith
 
 cost_in-bounded : (phase : Phase) (collector : Collector) (has_moved : Bool) → IsSized collector.table → cost_in phase collector has_moved ≤ least_quantum
-cost_in-bounded Mark collector has_moved sized = omega (arith, first_mark_cost-bounded collector.table sized collector.grey)
-cost_in-bounded Defrag collector has_moved sized = move_cost-bounded has_moved (next_move collector.table collector.cursor) (next_move-small collector.table collector.cursor sized)
-cost_in-bounded other collector has_moved sized = omega arith
+cost_in-bounded other collector has_moved sized = grind arith
 
 -- The dearest step costs 209
 pub step_cost-bounded : (collector : Collector) (has_moved : Bool) → IsSized collector.table → step_cost collector has_moved ≤ least_quantum
@@ -86,22 +69,19 @@ step_cost-bounded collector has_moved sized = cost_in-bounded collector.phase co
 -- no step is taken if no cycle runs
 pub steps-idle : (more left : ℕ) (has_moved : Bool) (collector : Collector) → is_idle collector.phase ≡ true → steps more left has_moved collector ≡ record { units = 0; collector = collector }
 unfolding steps
-steps-idle zero left has_moved collector idle = refl
-steps-idle (suc more) left has_moved collector idle = steps-stop more left has_moved collector (ap (λ b. b || nat_lt left (step_cost collector has_moved)) idle)
+steps-idle more left has_moved collector idle = grind arith
 
 -- The count of steps -----------------------------------------------------------------------------
 
 stops_at_nothing : (collector : Collector) (has_moved : Bool) (left : ℕ) → left ≡ 0 → (is_idle collector.phase || nat_lt left (step_cost collector has_moved)) ≡ false → ⊥
-stops_at_nothing collector has_moved left nothing goes =
-    let (runs, fits) = or_parts (is_idle collector.phase) (nat_lt left (step_cost collector has_moved)) goes in
-    omega (arith, ltb-false left (step_cost collector has_moved) fits, step_cost-positive collector has_moved runs)
+stops_at_nothing collector has_moved left nothing goes = grind (arith, or_parts, ltb-false, step_cost-positive)
 
 -- Any two counts that are no less than what is left give the same steps, so the count bounds nothing
 pub steps-enough : (more more' left : ℕ) (has_moved : Bool) (collector : Collector) → left ≤ more → left ≤ more' → steps more left has_moved collector ≡ steps more' left has_moved collector
 unfolding steps
 steps-enough zero zero left has_moved collector h h' = refl
-steps-enough zero (suc more') left has_moved collector h h' = sym (steps-stop more' left has_moved collector (true_from_ne_false (is_idle collector.phase || nat_lt left (step_cost collector has_moved)) (stops_at_nothing collector has_moved left (omega arith))))
-steps-enough (suc more) zero left has_moved collector h h' = steps-stop more left has_moved collector (true_from_ne_false (is_idle collector.phase || nat_lt left (step_cost collector has_moved)) (stops_at_nothing collector has_moved left (omega arith)))
+steps-enough zero (suc more') left has_moved collector h h' = grind (arith, steps-stop, true_from_ne_false, stops_at_nothing)
+steps-enough (suc more) zero left has_moved collector h h' = grind (arith, steps-stop, true_from_ne_false, stops_at_nothing)
 steps-enough (suc more) (suc more') left has_moved collector h h' = elim (cases_Bool (is_idle collector.phase || nat_lt left (step_cost collector has_moved))) [
   | inl stops ↦ steps-stop more left has_moved collector stops ∙ sym (steps-stop more' left has_moved collector stops)
   | inr goes ↦

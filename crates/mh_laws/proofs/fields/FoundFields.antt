@@ -1,63 +1,41 @@
 -- Where the fields of objects lie, what lies there, and what references lead to.
 -- In a kept heap a root slot holds an object. Each of its fields is found behind no spine, one or two, and its references lead on to objects.
-use Rattle.std.proofs.Common.{◌≡◌, ℕ, zero, suc, ◌+◌, ◌/◌, ◌%◌, ◌<◌, Bool, true, false, inl, inr, List, [], ◌∷◌, length, get_or, slice_get, Option, Some, None, is_some, IsSome, option_map, option_and_then, unwrap_or, refl, sym, ap, ◌∙◌, subst, arith}
-use Rattle.std.proofs.lemmas.Bool.{ltb-true}
-use Rattle.std.proofs.lemmas.Option.{none-some, same_Some}
-use Rattle.mh_model.specs.declared.shape.Shape.{Shape}
-use Rattle.mh_model.specs.Pages.{block_at}
-use Rattle.mh_model.specs.Table.{Block, reference_at, LeadsOn, references_at, numbers_at, resolve, target_of, is_spine, is_tall, is_at, spine_place, position_of, reference_in}
-use Rattle.mh_model.specs.Collector.{Collector}
-use Rattle.mh_model.specs.View.{field_blocks}
+use Rattle.std.proofs.Common.{◌≡◌, ℕ, suc, ◌+◌, ◌/◌, ◌%◌, ◌<◌, Bool, true, inl, inr, List, ◌∷◌, length, get_or, slice_get, Option, Some, None, option_map, option_and_then, refl, sym, ap, ◌∙◌, subst, arith}
+use Rattle.std.proofs.{lemmas.Bool.ltb-true, lemmas.Option.{none-some, same_Some}}
+use Rattle.mh_model.specs.{declared.shape.Shape.Shape, Pages.block_at}
+use Rattle.mh_model.specs.Table.{Block, references_at, numbers_at, resolve, target_of, is_spine, is_tall, is_at, spine_place, position_of, reference_in}
+use Rattle.mh_model.specs.{Collector.Collector, View.field_blocks}
 use Rattle.mh_model.specs.Invariant.{IsPlainAt, LeadsToObject, IsSound, IsObjectAt, HasChild, IsFindable, HasField}
 use Rattle.mh_laws.specs.Fields.{LeadsThere, SlotsHoldObjects, FieldsAreFound, ReferencesLeadOn}
-use Rattle.mh_table_laws.proofs.Lists.{below_length}
-use Rattle.mh_table_laws.proofs.marking.BatchMarking.{there_before}
-use Rattle.mh_laws.proofs.marking.BlockChanges.{resolve-live}
-use Rattle.mh_laws.proofs.marking.MarkSteps.{leads}
-use Rattle.mh_table_laws.proofs.objects.Headers.{flat_of}
+use Rattle.mh_table_laws.proofs.{Lists.below_length, marking.BatchMarking.there_before, objects.Headers.flat_of}
 use Rattle.mh_table_laws.proofs.objects.JoinedFields.{IsRun, AreRuns, child_place-is, own_count, a_middle, an_arraylet, are_runs, laid, has_fields}
 use Rattle.mh_table_laws.proofs.objects.Parts.{counts}
-use Rattle.mh_laws.proofs.snapshots.SessionCommands.{held_by}
+use Rattle.mh_laws.proofs.{marking.MarkSteps.leads, snapshots.SessionCommands.held_by}
 
 leads_there : (c : Collector) (o : Option ℕ) → ((reference : ℕ) → o ≡ Some reference → (x : Block) × IsPlainAt c (resolve c.table reference) x) → LeadsThere c o
-leads_there c None led = record { on = tt; home = tt }
-leads_there c (Some reference) led =
-    let (x, plain) = led reference refl in
-    let there : IsSome (block_at c.table (resolve c.table reference)) = ap is_some plain.there in
-    record { on = (there_before c.table reference there, there); home = (there, ap (option_and_then (λ (b : Block). b.forward)) plain.there ∙ plain.original) }
+leads_there c o led = grind arith
 
 references-of : (c : Collector) (q : ℕ) (y : Block) → IsPlainAt c q y → references_at c.table q ≡ y.references
-references-of c q y plain = ap (λ o. unwrap_or (option_map (λ (b : Block). b.references) o) []) plain.there
+references-of c q y plain = grind arith
 
 numbers-of : (c : Collector) (q : ℕ) (y : Block) → IsPlainAt c q y → numbers_at c.table q ≡ y.numbers
-numbers-of c q y plain = ap (λ o. unwrap_or (option_map (λ (b : Block). b.numbers) o) []) plain.there
+numbers-of c q y plain = grind arith
 
 -- a reference of a plain block that leads to one
 has_child : (c : Collector) (q : ℕ) (y : Block) (i r : ℕ) (x : Block) → IsPlainAt c q y → get_or y.references i None ≡ Some r → IsPlainAt c (resolve c.table r) x → HasChild c.table q i
-has_child c q y i r x plain word led =
-    let own = references-of c q y plain in
-    let read : reference_at c.table q i ≡ Some r = ap (λ rs. get_or rs i None) own ∙ word in
-    record {
-      within = subst (λ rs. i < length rs) (sym own) (below_length y.references i r word);
-      some = ap is_some read;
-      leads = subst (LeadsOn c.table) (sym read) (there_before c.table r (ap is_some led.there), ap is_some led.there);
-      there = subst (λ p. IsSome (block_at c.table p)) (sym (child_place-is c q y i r plain word)) (ap is_some led.there);
-    }
+has_child c q y i r x plain word led = grind (arith, references-of, below_length, leads, there_before, child_place-is)
 
 -- the run of a number among the blocks of an object
 run-at : (r n k : ℕ) (ys : List Block) → AreRuns r n k ys → (i : ℕ) (y : Block) → slice_get ys i ≡ Some y → IsRun r n (k + i) y
-run-at r n k [] runs i y e = absurd (none-some y e)
-run-at r n k (x ∷ ys) (run, runs) zero y e =
-    let z : k ≡ k + 0 = omega arith in
-    subst (λ m. IsRun r n m y) z (subst (IsRun r n k) (same_Some x y e) run)
 run-at r n k (x ∷ ys) (run, runs) (suc i) y e =
     let z : suc k + i ≡ k + suc i = omega arith in
     subst (λ m. IsRun r n m y) z (run-at r n (suc k) ys runs i y e)
+run-at r n k ys runs i y e = grind (arith, none-some, same_Some)
 
 -- the object of part 0 at a place
 module _ (n : ℕ) (c : Collector) (h : IsSound n c) (p : ℕ) (z : Block) (plain : IsPlainAt c p z) (first : z.part ≡ 0) (field : ℕ) (below : field < z.header.references + z.header.numbers) where
   test-at : (test : Block → Bool) → is_at test c.table p ≡ true → test z ≡ true
-  test-at test e = sym (ap (λ (o : Option Block). unwrap_or (option_map test o) false) plain.there) ∙ e
+  test-at test e = grind arith
 
   upper-found : is_tall z ≡ true → HasChild c.table p (field / 3600)
   upper-found tall =
@@ -75,11 +53,7 @@ module _ (n : ℕ) (c : Collector) (h : IsSound n c) (p : ℕ) (z : Block) (plai
       subst (λ q. HasChild c.table q (field / 60 % 60)) (sym (a.spine_is field refl)) (subst (HasChild c.table a.spine) (sym (a.index_is field refl)) at)
 
   pub findable : IsFindable c.table p field
-  findable = record {
-    there = ap is_some plain.there;
-    upper = λ e. upper-found (test-at is_tall e);
-    lower = λ e. lower-found (test-at is_spine e);
-  }
+  findable = grind (arith, upper-found, test-at, lower-found)
 
   pub has_field : HasField c p z.header field
   has_field =
@@ -91,13 +65,7 @@ module _ (n : ℕ) (c : Collector) (h : IsSound n c) (p : ℕ) (z : Block) (plai
       let own = run.references in
       let owned = run.numbers in
       let index = l.index in
-      record {
-        block = l.block;
-        has = has_fields n c h p z plain first field l;
-        reference = λ small. omega (arith, references, own, index, small);
-        after = λ large. omega (arith, references, own, index, large);
-        number = λ large. omega (arith, references, numbers, own, owned, index, large, below);
-      }
+      grind (arith, has_fields)
 
   -- what a reference there leads to
   pub field_leads : field < z.header.references → (reference : ℕ) → reference_in c.table (position_of c.table p field) ≡ Some reference → LeadsToObject c reference
@@ -132,9 +100,7 @@ leads-to n c h place shape o field below reference e =
 
 pub references-lead : ReferencesLeadOn
 references-lead = record {
-  slots = λ c (snapshot, n, keeps) slot. leads_there c (get_or c.slots slot None) (λ reference e.
-      let (x, plain, first) = keeps.sound.slots slot reference e in
-      (x, subst (λ q. IsPlainAt c q x) (sym (resolve-live c.table reference x plain.there plain.original)) plain));
+  slots = λ c (snapshot, n, keeps) slot. leads_there c (get_or c.slots slot None) (grind arith);
   words = λ c (snapshot, n, keeps) place block plain index. subst (λ rs. LeadsThere c (get_or rs index None)) (sym (references-of c place block plain)) (leads_there c (get_or block.references index None) (λ reference e. leads n c keeps.sound place block plain index reference e));
   objects = λ c (snapshot, n, keeps) slot place e. let (x, plain, first) = keeps.sound.slots slot place e in (x.header, record { block = x; plain = plain; first = first; header = refl });
   fields = λ c (snapshot, n, keeps) place shape o field below reference e. leads-to n c keeps.sound place shape o field below reference e;

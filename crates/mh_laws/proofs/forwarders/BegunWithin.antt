@@ -1,80 +1,37 @@
 -- When a defragmentation begins within a quantum no block is a forwarder, and each that its cycle leaves was made since.
 -- The step that ends the sweep leaves none: the sweep leaves marked blocks alone, and until then no marked block is a forwarder.
 -- A quantum that ends a cycle goes through that step, unless it was entered in the cycle's defragmentation.
-use Rattle.std.proofs.Common.{◌≡◌, ◌⊎◌, ℕ, zero, suc, ◌-◌, ◌==◌, nat_lt, ◌||◌, if◌then◌else◌, Bool, true, false, inl, inr, List, [], ◌∷◌, Option, Some, None, option_and_then, refl, sym, ap, ◌∙◌, subst}
+use Rattle.std.proofs.Common.{◌≡◌, ◌⊎◌, ℕ, zero, suc, ◌-◌, nat_lt, ◌||◌, Bool, true, false, inl, inr, List, Option, Some, None, refl, sym, ap, ◌∙◌, subst, arith}
 use Rattle.std.proofs.lemmas.Bool.{false≢true, cases_Bool}
-use Rattle.mh_model.specs.declared.config.Config.{Config}
-use Rattle.mh_model.specs.declared.cycle.Phase.{Phase}
-use Rattle.mh_model.specs.declared.cycle.Phase.TheVariants.{Idle, Roots, Mark, Sweep, Defrag}
-use Rattle.mh_model.specs.Pages.{block_at}
-use Rattle.mh_model.specs.Table.{Block, forward_at}
-use Rattle.mh_model.specs.Collector.{Collector, Move, Spending, with_phase, with_move, with_marking, marking_of, mark_step, roots_step, sweep_step, defrag_step, next_move, after_mark, is_past, cycle_end, phase_after, step_in, collector_step, step_cost, is_moving, is_idle, is_start_due, quantum_start, steps, quantum}
+use Rattle.mh_model.specs.{declared.config.Config.Config, declared.cycle.Phase.Phase}
+use Rattle.mh_model.specs.{declared.cycle.Phase.TheVariants.{Sweep, Defrag}, Pages.block_at, Table.{Block, forward_at}}
+use Rattle.mh_model.specs.Collector.{Collector, Move, Spending, with_move, sweep_step, after_mark, collector_step, step_cost, is_moving, is_idle, is_start_due, quantum_start, steps, quantum}
 use Rattle.mh_model.specs.Invariant.{in_trace, in_defrag, KeepsSnapshot, IsSteady}
-use Rattle.mh_model.specs.Limits.{root_slots}
 use Rattle.mh_laws.specs.Forwarders.{after_steps, BeginsToDefragment, IsMadeSince, MakesItsForwarders, QuantaMakeTheirForwarders}
-use Rattle.mh_laws.proofs.costs.Quanta.{steps-stop, steps-go}
-use Rattle.mh_laws.proofs.costs.QuantumStarts.{begins}
-use Rattle.mh_laws.proofs.sweeping.SweepSteps.{snapshot-sweep_step}
-use Rattle.mh_laws.proofs.snapshots.CycleSteps.{continues-collector_step}
-use Rattle.mh_laws.proofs.snapshots.SteadyStates.{collectors-steady}
+use Rattle.mh_laws.proofs.{bounds.CycleBounds.steps-number, costs.Quanta.{steps-stop, steps-go}}
+use Rattle.mh_laws.proofs.{costs.QuantumStarts.begins, sweeping.SweepSteps.snapshot-sweep_step}
+use Rattle.mh_laws.proofs.{snapshots.CycleSteps.continues-collector_step, snapshots.SteadyStates.collectors-steady}
 
 -- Steps ------------------------------------------------------------------------------------------
 
 trace-after_mark : (c : Collector) (grey : List ℕ) → in_trace (after_mark c grey).phase ≡ true
-trace-after_mark c [] = refl
-trace-after_mark c (place ∷ grey) = refl
+trace-after_mark c grey = grind arith
 
 -- from marking and the sweep a step leads to defragmentation alone, and from the sweep
 trace-step : (c : Collector) → in_trace c.phase ≡ true → in_trace (collector_step c).phase ≡ false → (c.phase ≡ Sweep) × ((collector_step c).phase ≡ Defrag)
 unfolding collector_step
-trace-step c trace ended = go c.phase refl trace ended
-  where
-    after_roots : (b : Bool) → in_trace (if b then after_mark (roots_step c) (roots_step c).grey else roots_step c).phase ≡ true
-    after_roots true = trace-after_mark (roots_step c) (roots_step c).grey
-    after_roots false = refl
-
-    after_sweep : (b : Bool) → c.phase ≡ Sweep → in_trace (if b then with_phase (sweep_step c) Defrag 0 else sweep_step c).phase ≡ false → (if b then with_phase (sweep_step c) Defrag 0 else sweep_step c).phase ≡ Defrag
-    after_sweep true is e = refl
-    after_sweep false is e = absurd (false≢true (sym e ∙ ap in_trace is))
-
-    go : (phase : Phase) → c.phase ≡ phase → in_trace phase ≡ true → in_trace (phase_after phase (step_in phase c)).phase ≡ false → (c.phase ≡ Sweep) × ((phase_after phase (step_in phase c)).phase ≡ Defrag)
-    go Idle is t e = absurd (false≢true t)
-    go Roots is t e = absurd (false≢true (sym e ∙ after_roots ((roots_step c).cursor == root_slots)))
-    go Mark is t e = let m : Collector = with_marking c (mark_step (marking_of c)) in absurd (false≢true (sym e ∙ trace-after_mark m m.grey))
-    go Sweep is t e = (is, after_sweep (is_past (sweep_step c).table (sweep_step c).cursor) is e)
-    go Defrag is t e = absurd (false≢true t)
+trace-step c trace ended = grind arith
 
 cycle-after_mark : (c : Collector) (grey : List ℕ) → (after_mark c grey).cycle ≡ c.cycle
-cycle-after_mark c [] = refl
-cycle-after_mark c (place ∷ grey) = refl
+cycle-after_mark c grey = grind arith
 
 cycle-with_move : (c : Collector) (move : Option Move) → (with_move c move).cycle ≡ c.cycle
-cycle-with_move c None = refl
-cycle-with_move c (Some move) = refl
+cycle-with_move c move = grind arith
 
 -- a step leaves the cycle's number
 cycle-collector_step : (c : Collector) → (collector_step c).cycle ≡ c.cycle
 unfolding collector_step
-cycle-collector_step c = go c.phase
-  where
-    after_roots : (b : Bool) → (if b then after_mark (roots_step c) (roots_step c).grey else roots_step c).cycle ≡ c.cycle
-    after_roots true = cycle-after_mark (roots_step c) (roots_step c).grey
-    after_roots false = refl
-
-    after_sweep : (b : Bool) → (if b then with_phase (sweep_step c) Defrag 0 else sweep_step c).cycle ≡ c.cycle
-    after_sweep true = refl
-    after_sweep false = refl
-
-    after_defrag : (b : Bool) → (if b then cycle_end (defrag_step c) else defrag_step c).cycle ≡ c.cycle
-    after_defrag true = cycle-with_move c (next_move c.table c.cursor)
-    after_defrag false = cycle-with_move c (next_move c.table c.cursor)
-
-    go : (phase : Phase) → (phase_after phase (step_in phase c)).cycle ≡ c.cycle
-    go Idle = refl
-    go Roots = after_roots ((roots_step c).cursor == root_slots)
-    go Mark = let m : Collector = with_marking c (mark_step (marking_of c)) in cycle-after_mark m m.grey
-    go Sweep = after_sweep (is_past (sweep_step c).table (sweep_step c).cursor)
-    go Defrag = after_defrag (is_past (defrag_step c).table (defrag_step c).cursor)
+cycle-collector_step c = grind (arith, cycle-after_mark, cycle-with_move)
 
 -- after the last step of the sweep no block is a forwarder: all that is left was marked, and so no forwarder
 none-forwarded : (c : Collector) → IsSteady c → c.phase ≡ Sweep → (collector_step c).phase ≡ Defrag → (place : ℕ) → forward_at (collector_step c).table place ≡ None
@@ -92,11 +49,7 @@ none-forwarded c (snapshot, n, h) sweeps defrags place = by_block (block_at swep
 
     -- the phase that follows leaves the table
     same : (collector_step c).table ≡ swept.table
-    same = ap (λ phase. (phase_after phase (step_in phase c)).table) sweeps ∙ by_end (is_past swept.table swept.cursor)
-      where
-        by_end : (b : Bool) → (if b then with_phase swept Defrag 0 else swept).table ≡ swept.table
-        by_end true = refl
-        by_end false = refl
+    same = grind arith
 
     original : (block : Block) → block_at swept.table place ≡ Some block → block.forward ≡ None
     original block at =
@@ -104,8 +57,7 @@ none-forwarded c (snapshot, n, h) sweeps defrags place = by_block (block_at swep
         kept_swept.sound.original (ap in_trace sweeps) place block at (stamp ∙ cycle-collector_step c)
 
     by_block : (content : Option Block) → block_at swept.table place ≡ content → forward_at (collector_step c).table place ≡ None
-    by_block None at = ap (λ t. forward_at t place) same ∙ ap (option_and_then (λ (b : Block). b.forward)) at
-    by_block (Some block) at = ap (λ t. forward_at t place) same ∙ ap (option_and_then (λ (b : Block). b.forward)) at ∙ original block at
+    by_block content at = grind (arith, same, original)
 
 -- Some steps -------------------------------------------------------------------------------------
 
@@ -121,13 +73,6 @@ steps-zero : (left : ℕ) (moved : Bool) (c : Collector) → (steps 0 left moved
 unfolding steps
 steps-zero left moved c = refl
 
-pub steps-cycle : (count left : ℕ) (moved : Bool) (c : Collector) → (steps count left moved c).collector.cycle ≡ c.cycle
-steps-cycle zero left moved c = ap (λ k. k.cycle) (steps-zero left moved c)
-steps-cycle (suc count) left moved c = elim (cases_Bool (is_idle c.phase || nat_lt left (step_cost c moved))) [
-  | inl stops ↦ ap (λ (k : Collector). k.cycle) (steps-none count left moved c stops)
-  | inr goes ↦ ap (λ (k : Collector). k.cycle) (steps-next count left moved c goes) ∙ steps-cycle count (left - step_cost c moved) (moved || is_moving c) (collector_step c) ∙ cycle-collector_step c
-]
-
 steps-steady : (count left : ℕ) (moved : Bool) (c : Collector) → IsSteady c → IsSteady (steps count left moved c).collector
 steps-steady zero left moved c steady = subst IsSteady (sym (steps-zero left moved c)) steady
 steps-steady (suc count) left moved c steady = elim (cases_Bool (is_idle c.phase || nat_lt left (step_cost c moved))) [
@@ -138,16 +83,10 @@ steps-steady (suc count) left moved c steady = elim (cases_Bool (is_idle c.phase
 -- one step more is a step, or none
 steps-more : (count left : ℕ) (moved : Bool) (c : Collector)
     → ((steps (suc count) left moved c).collector ≡ (steps count left moved c).collector) ⊎ ((steps (suc count) left moved c).collector ≡ collector_step (steps count left moved c).collector)
-steps-more zero left moved c = elim (cases_Bool (is_idle c.phase || nat_lt left (step_cost c moved))) [
-  | inl stops ↦ inl (steps-none 0 left moved c stops ∙ sym (steps-zero left moved c))
-  | inr goes ↦ inr (steps-next 0 left moved c goes ∙ steps-zero (left - step_cost c moved) (moved || is_moving c) (collector_step c) ∙ ap collector_step (sym (steps-zero left moved c)))
-]
+steps-more zero left moved c = grind (arith, cases_Bool, steps-none, steps-zero, steps-next)
 steps-more (suc count) left moved c = elim (cases_Bool (is_idle c.phase || nat_lt left (step_cost c moved))) [
   | inl stops ↦ inl (steps-none (suc count) left moved c stops ∙ sym (steps-none count left moved c stops))
-  | inr goes ↦ elim (steps-more count (left - step_cost c moved) (moved || is_moving c) (collector_step c)) [
-    | inl none ↦ inl (steps-next (suc count) left moved c goes ∙ none ∙ sym (steps-next count left moved c goes))
-    | inr one ↦ inr (steps-next (suc count) left moved c goes ∙ one ∙ ap collector_step (sym (steps-next count left moved c goes)))
-  ]
+  | inr goes ↦ grind (arith, steps-next, steps-more count (left - step_cost c moved) (moved || is_moving c) (collector_step c))
 ]
 
 -- after so many steps the sweep goes on, and after one more defragmentation has begun
@@ -164,27 +103,15 @@ steps-begin (suc count) left moved c trace ended = elim (cases_Bool (is_idle c.p
   | inr goes ↦ elim (cases_Bool (in_trace (collector_step c).phase)) [
     | inl still ↦
         let begun = steps-begin count (left - step_cost c moved) (moved || is_moving c) (collector_step c) still (ap (λ (k : Collector). in_trace k.phase) (sym (steps-next count left moved c goes)) ∙ ended) in
-        record {
-          count = suc begun.count;
-          sweeps = ap (λ (k : Collector). k.phase) (steps-next begun.count left moved c goes) ∙ begun.sweeps;
-          defragments = ap (λ (k : Collector). k.phase) (steps-next (suc begun.count) left moved c goes) ∙ begun.defragments;
-        }
-    | inr passed ↦
-        let (sweeps, defrags) = trace-step c trace passed in
-        record {
-          count = 0;
-          sweeps = ap (λ (k : Collector). k.phase) (steps-zero left moved c) ∙ sweeps;
-          defragments = ap (λ (k : Collector). k.phase) (steps-next 0 left moved c goes ∙ steps-zero (left - step_cost c moved) (moved || is_moving c) (collector_step c)) ∙ defrags;
-        }
+        grind (arith, steps-next begun.count left moved c goes, steps-next (suc begun.count) left moved c goes)
+    | inr passed ↦ grind (arith, trace-step, steps-zero, steps-next)
   ]
 ]
 
 -- Quanta -----------------------------------------------------------------------------------------
 
 defrag_is : (phase : Phase) → is_idle phase ≡ false → in_trace phase ≡ false → phase ≡ Defrag
-defrag_is Idle runs ended = absurd (false≢true (sym runs))
-defrag_is Defrag runs ended = refl
-defrag_is other runs ended = absurd (false≢true (sym ended))
+defrag_is other runs ended = grind arith
 
 module _ (config : Config) (c : Collector) (steady : IsSteady c) where
   abbrev start : Collector
@@ -206,17 +133,7 @@ module _ (config : Config) (c : Collector) (steady : IsSteady c) where
 
   -- a quantum that is entered in marking or the sweep, or starts a cycle
   begins-within : in_trace start.phase ≡ true → in_trace end.phase ≡ false → (begun : Collector) × BeginsToDefragment config c begun × IsMadeSince begun end
-  begins-within trace ended =
-      let b = steps-begin config.quantum config.quantum false start trace ended in
-      let begun : Collector = after_steps config c (suc b.count) in
-      let here : BeginsToDefragment config c begun = record { count = b.count; sweeps = b.sweeps; is = refl; defragments = b.defragments } in (
-        begun,
-        here,
-        record {
-          cycle = steps-cycle (suc b.count) config.quantum false start ∙ sym (steps-cycle config.quantum config.quantum false start);
-          forwarders = λ place target e. begins-clean begun here place;
-        },
-      )
+  begins-within trace ended = grind (arith, steps-begin, steps-number, begins-clean)
 
   made : MakesItsForwarders config c end
   made = record { begins = begins-clean; reaches = reaches }
@@ -227,7 +144,7 @@ module _ (config : Config) (c : Collector) (steady : IsSteady c) where
         | inr other ↦ elim other [
           | inl counted ↦ elim (cases_Bool (in_trace c.phase)) [
             | inl trace ↦ inr (begins-within (ap (λ (k : Collector). in_trace k.phase) counted.1 ∙ trace) ended)
-            | inr passed ↦ inl (defrag_is c.phase counted.0 passed, sym (steps-cycle config.quantum config.quantum false start ∙ ap (λ (k : Collector). k.cycle) counted.1))
+            | inr passed ↦ inl (defrag_is c.phase counted.0 passed, sym (steps-number config.quantum config.quantum false start ∙ ap (λ (k : Collector). k.cycle) counted.1))
           ]
           | inr rests ↦ elim within [ inl runs ↦ absurd (false≢true (sym runs ∙ ap is_idle rests.1)) | inr due ↦ absurd (false≢true (sym rests.0 ∙ due)) ]
         ]

@@ -1,17 +1,15 @@
 -- The steps of a quantum begin with a batch that fits, and end with it if the next block doesn't fit.
-use Rattle.std.proofs.Common.{◌≡◌, ◌≢◌, ◌⊎◌, nat_le, if◌then◌else◌, inl, inr, ℕ, zero, suc, ◌+◌, ◌-◌, ◌<◌, ◌≤◌, ◌==◌, ◌||◌, nat_lt, Bool, true, false, List, [], ◌∷◌, ◌++◌, length, map, Option, refl, sym, ap, ◌∙◌, subst, arith}
-use Rattle.std.specs.List.{AllByRecursion, IsDistinct}
-use Rattle.std.proofs.lemmas.Bool.{leb-true, leb-false, false≢true, eq-eqb, le-ltb, lt-ltb}
-use Rattle.std.proofs.lemmas.List.{append-nil}
+use Rattle.std.proofs.Common.{◌≡◌, ◌≢◌, ◌⊎◌, nat_le, if◌then◌else◌, inr, ℕ, zero, suc, ◌+◌, ◌-◌, ◌<◌, ◌≤◌, ◌==◌, ◌||◌, Bool, true, false, List, [], ◌∷◌, ◌++◌, length, map, Option, refl, sym, ap, ◌∙◌, subst, arith}
+use Rattle.std.proofs.{lemmas.Bool.{leb-true, leb-false, false≢true, eq-eqb, le-ltb}, lemmas.List.append-nil}
 use Rattle.std.proofs.lemmas.List.Sums.{sum_by-cons}
-use Rattle.mh_model.specs.declared.cycle.Phase.TheVariants.{Mark}
-use Rattle.mh_model.specs.Pages.{Table}
+use Rattle.std.specs.List.{AllByRecursion, IsDistinct}
+use Rattle.mh_model.specs.{declared.cycle.Phase.TheVariants.Mark, Pages.Table}
 use Rattle.mh_model.specs.Table.{Block, references_at, target_of, found_in}
-use Rattle.mh_model.specs.Collector.{Collector, Marking, Spending, mark_step, mark_cost, first_mark_cost, marking_of, with_marking, with_phase, after_mark, is_idle, cost_in, is_moving_in, is_moving, step_in, phase_after, step_cost, collector_step, with_units, steps}
+use Rattle.mh_model.specs.Collector.{Collector, Marking, Spending, mark_cost, first_mark_cost, marking_of, with_marking, with_phase, after_mark, is_moving, step_cost, collector_step, with_units, steps}
+use Rattle.mh_model.specs.Batches.{longest_front, written_back, batch_written, batch_marked, after_batch, batch_cost, NoneTwice}
 use Rattle.mh_table_laws.specs.Marking.{mark_steps}
 use Rattle.mh_laws.specs.Batches.{IsLongestFront, AnyCutIntoBatchesIsTheSame}
-use Rattle.mh_model.specs.Batches.{longest_front, written_back, batch_written, batch_marked, after_batch, batch_cost, NoneTwice}
-use Rattle.mh_laws.proofs.costs.Quanta.{steps-stop, steps-go, steps-enough}
+use Rattle.mh_laws.proofs.costs.Quanta.{steps-go, steps-enough}
 use Rattle.mh_table_laws.proofs.marking.GreyList.{cycle-written_back}
 use Rattle.mh_table_laws.proofs.marking.BatchMarking.{none_twice-front, KeepsOthers, written_back-keeps, with_front, first_marked, mark_step-front, written_back-front, batch_written-first, front-marked}
 
@@ -30,17 +28,15 @@ apart-front (y ∷ front) x rest (here, after) = (λ e. false≢true (sym (all-m
 -- Batches ----------------------------------------------------------------------------------------
 
 batch_written-front : (batch : List ℕ) (all : List (List (Option ℕ))) (front : List ℕ) (marking : Marking) → batch_written (with_front front marking) batch all ≡ with_front front (batch_written marking batch all)
-batch_written-front [] all front marking = refl
-batch_written-front (place ∷ batch) [] front marking = refl
 batch_written-front (place ∷ batch) (found ∷ all) front marking =
     ap (λ m. batch_written m batch all) (written_back-front found front marking place 0) ∙ batch_written-front batch all front (written_back marking place 0 found)
+batch_written-front batch all front marking = refl
 
 -- a batch leaves the references of a block that isn't in it
 batch_written-other : (batch : List ℕ) (all : List (List (Option ℕ))) (marking : Marking) (other : ℕ) → AllByRecursion (λ y. other ≢ y) batch → references_at (batch_written marking batch all).table other ≡ references_at marking.table other
-batch_written-other [] all marking other apart = refl
-batch_written-other (place ∷ batch) [] marking other apart = refl
 batch_written-other (place ∷ batch) (found ∷ all) marking other (here, after) =
     batch_written-other batch all (written_back marking place 0 found) other after ∙ (written_back-keeps found marking place 0).references other here
+batch_written-other batch all marking other apart = refl
 
 -- a marking whose grey list has this front
 as_front : (marking : Marking) (batch rest : List ℕ) → marking.grey ≡ batch ++ rest → marking ≡ with_front batch (record marking { grey = rest })
@@ -56,29 +52,20 @@ batch-same marking batch rest e once =
 collector_step-front : (collector : Collector) (place : ℕ) (front : List ℕ) (marking : Marking) → collector.phase ≡ Mark → marking.cycle ≡ collector.cycle
     → collector_step (with_marking collector (with_front (place ∷ front) marking)) ≡ after_mark (with_marking collector (with_front front (first_marked marking place))) (front ++ (first_marked marking place).grey)
 unfolding collector_step
-collector_step-front collector place front marking phase cycle =
-    let old : Collector = with_marking collector (with_front (place ∷ front) marking) in
-    let in_mark : phase_after collector.phase (step_in collector.phase old) ≡ phase_after Mark (step_in Mark old) = ap (λ p. phase_after p (step_in p old)) phase in
-    let same : marking_of old ≡ with_front (place ∷ front) marking = ap (λ n. record (marking_of old) { cycle = n }) (sym cycle) in
-    in_mark ∙ ap (λ m. after_mark (with_marking old m) m.grey) (ap mark_step same ∙ mark_step-front place front marking)
+collector_step-front collector place front marking phase cycle = grind (arith, with_front, mark_step-front)
 
 cost-front : (collector : Collector) (place : ℕ) (front : List ℕ) (marking : Marking) (has_moved : Bool) → collector.phase ≡ Mark → step_cost (with_marking collector (with_front (place ∷ front) marking)) has_moved ≡ mark_cost marking.table place
 unfolding step_cost
-cost-front collector place front marking has_moved phase = ap (λ p. cost_in p (with_marking collector (with_front (place ∷ front) marking)) has_moved) phase
+cost-front collector place front marking has_moved phase = grind arith
 
 moving-front : (collector : Collector) (marking : Marking) (has_moved : Bool) → collector.phase ≡ Mark → (has_moved || is_moving (with_marking collector marking)) ≡ has_moved
-moving-front collector marking has_moved phase = ap (λ p. has_moved || is_moving_in p (with_marking collector marking)) phase ∙ or_nothing has_moved
-  where
-    or_nothing : (b : Bool) → (b || false) ≡ b
-    or_nothing true = refl
-    or_nothing false = refl
+moving-front collector marking has_moved phase = grind arith
 
 pub with_units-twice : (one two : ℕ) (spending : Spending) → with_units one (with_units two spending) ≡ with_units (one + two) spending
-with_units-twice one two spending = let e : one + (two + spending.units) ≡ one + two + spending.units = omega arith in ap (λ n. record spending { units = n }) e
+with_units-twice one two spending = grind arith
 
 after_mark-phase : (collector : Collector) (marking : Marking) (grey : List ℕ) → after_mark (with_marking (with_phase collector Mark 0) marking) grey ≡ after_mark (with_marking collector marking) grey
-after_mark-phase collector marking [] = refl
-after_mark-phase collector marking (place ∷ grey) = refl
+after_mark-phase collector marking grey = refl
 
 -- the collector after a batch of a front
 abbrev front_after : Collector → List ℕ → Marking → Collector
@@ -90,15 +77,7 @@ first_step : (collector : Collector) (place : ℕ) (front : List ℕ) (marking :
     let cost = mark_cost marking.table place in
     steps left left has_moved old ≡ with_units cost (steps (left - cost) (left - cost) has_moved (collector_step old))
 first_step collector place front marking zero has_moved phase fits = absurd (omega arith)
-first_step collector place front marking (suc more) has_moved phase fits =
-    let old : Collector = with_marking collector (with_front (place ∷ front) marking) in
-    let cost : ℕ = mark_cost marking.table place in
-    let is_cost : step_cost old has_moved ≡ cost = cost-front collector place front marking has_moved phase in
-    let goes : (is_idle old.phase || nat_lt (suc more) (step_cost old has_moved)) ≡ false = ap (λ p. is_idle p || nat_lt (suc more) (step_cost old has_moved)) phase ∙ ap (nat_lt (suc more)) is_cost ∙ le-ltb (suc more) cost fits in
-    steps-go more (suc more) has_moved old goes
-    ∙ ap (λ n. with_units n (steps more (suc more - n) (has_moved || is_moving old) (collector_step old))) is_cost
-    ∙ ap (λ b. with_units cost (steps more (suc more - cost) b (collector_step old))) (moving-front collector (with_front (place ∷ front) marking) has_moved phase)
-    ∙ ap (with_units cost) (steps-enough more (suc more - cost) (suc more - cost) has_moved (collector_step old) (omega arith) (omega arith))
+first_step collector place front marking (suc more) has_moved phase fits = grind (arith, with_front, cost-front, le-ltb, steps-go, moving-front, steps-enough)
 
 batch_cost-same : (batch : List ℕ) (old new : Table Block) → AllByRecursion (λ other. references_at new other ≡ references_at old other) batch → batch_cost new batch ≡ batch_cost old batch
 batch_cost-same [] old new same = refl
@@ -107,7 +86,7 @@ batch_cost-same (place ∷ batch) old new (here, after) =
 
 apart-references : (batch : List ℕ) (place : ℕ) (old new : Table Block) → KeepsOthers place old new → AllByRecursion (λ other. (place == other) ≡ false) batch → AllByRecursion (λ other. references_at new other ≡ references_at old other) batch
 apart-references [] place old new keeps apart = tt
-apart-references (other ∷ batch) place old new keeps (here, after) = (keeps.references other (λ e. false≢true (sym here ∙ eq-eqb place other (sym e))), apart-references batch place old new keeps after)
+apart-references (other ∷ batch) place old new keeps (here, after) = grind (arith, apart-references batch place old new keeps after)
 
 -- the steps of a quantum begin with a front that fits
 front-begins : (batch : List ℕ) (collector : Collector) (marking : Marking) (left : ℕ) (has_moved : Bool) → collector.phase ≡ Mark → marking.cycle ≡ collector.cycle → NoneTwice batch → 0 < length batch → batch_cost marking.table batch ≤ left
@@ -119,9 +98,7 @@ front-begins (place ∷ []) collector marking left has_moved phase cycle once so
     let cost : ℕ = mark_cost marking.table place in
     let all : batch_cost marking.table (place ∷ []) ≡ cost = omega (arith, sum_by-cons (mark_cost marking.table) place []) in
     let small : cost ≤ left = omega arith in
-    first_step collector place [] marking left has_moved phase small
-    ∙ ap (λ c. with_units cost (steps (left - cost) (left - cost) has_moved c)) (collector_step-front collector place [] marking phase cycle)
-    ∙ ap (λ n. with_units n (steps (left - n) (left - n) has_moved (front_after collector (place ∷ []) marking))) (sym all)
+    grind (arith, first_step collector place [] marking left has_moved phase small, collector_step-front collector place [] marking phase cycle)
 front-begins (place ∷ next ∷ batch) collector marking left has_moved phase cycle (apart, once) some fits =
     let cost : ℕ = mark_cost marking.table place in
     let first : Marking = first_marked marking place in
@@ -129,14 +106,13 @@ front-begins (place ∷ next ∷ batch) collector marking left has_moved phase c
     let rest_cost : batch_cost first.table (next ∷ batch) ≡ batch_cost marking.table (next ∷ batch) = batch_cost-same (next ∷ batch) marking.table first.table (apart-references (next ∷ batch) place marking.table first.table keeps apart) in
     let all : batch_cost marking.table (place ∷ next ∷ batch) ≡ cost + batch_cost marking.table (next ∷ batch) = sum_by-cons (mark_cost marking.table) place (next ∷ batch) in
     let rest : ℕ = batch_cost first.table (next ∷ batch) in
-    let small : cost ≤ left = omega arith in
     let inner = front-begins (next ∷ batch) (with_phase collector Mark 0) first (left - cost) has_moved refl (cycle-written_back (map (target_of marking.table) (references_at marking.table place)) marking place 0 ∙ cycle) once (omega arith) (omega arith) in
     let marked : Marking = batch_written first (next ∷ batch) (found_in first.table (next ∷ batch)) in
     let after : front_after (with_phase collector Mark 0) (next ∷ batch) first ≡ front_after collector (place ∷ next ∷ batch) marking =
     after_mark-phase collector marked marked.grey ∙ ap (λ m. after_mark (with_marking collector m) m.grey) (batch_written-first place (next ∷ batch) marking apart) in
     let total : cost + rest ≡ batch_cost marking.table (place ∷ next ∷ batch) = omega arith in
     let left_same : left - cost - rest ≡ left - batch_cost marking.table (place ∷ next ∷ batch) = omega arith in
-    first_step collector place (next ∷ batch) marking left has_moved phase small
+    first_step collector place (next ∷ batch) marking left has_moved phase (omega arith)
     ∙ ap (λ c. with_units cost (steps (left - cost) (left - cost) has_moved c)) (collector_step-front collector place (next ∷ batch) marking phase cycle)
     ∙ ap (with_units cost) inner
     ∙ with_units-twice cost rest (steps (left - cost - rest) (left - cost - rest) has_moved (front_after (with_phase collector Mark 0) (next ∷ batch) first))
@@ -154,12 +130,7 @@ batch-begins collector batch rest left has_moved phase e once some fits =
 -- steps stop at a block that doesn't fit
 stops-short : (collector : Collector) (left : ℕ) (has_moved : Bool) → left < step_cost collector has_moved → steps left left has_moved collector ≡ record { units = 0; collector = collector }
 unfolding steps
-stops-short collector zero has_moved short = refl
-stops-short collector (suc more) has_moved short = steps-stop more (suc more) has_moved collector (ap (λ b. is_idle collector.phase || b) (lt-ltb (suc more) (step_cost collector has_moved) short) ∙ or_true (is_idle collector.phase))
-  where
-    or_true : (b : Bool) → (b || true) ≡ true
-    or_true true = refl
-    or_true false = refl
+stops-short collector left has_moved short = grind arith
 
 batch-ends : (collector : Collector) (batch rest : List ℕ) (left : ℕ) (has_moved : Bool) → collector.phase ≡ Mark → collector.grey ≡ batch ++ rest → NoneTwice collector.grey → 0 < length batch → 0 < length rest
     → left < batch_cost collector.table batch + first_mark_cost collector.table rest → let left_after = left - batch_cost collector.table batch in
@@ -174,25 +145,17 @@ batch-ends collector batch (place ∷ rest) left has_moved phase e once some mor
     let cost : step_cost (with_marking (with_phase collector Mark 0) (with_front (place ∷ rest) marked)) has_moved ≡ mark_cost marked.table place = cost-front (with_phase collector Mark 0) place rest marked has_moved refl in
     let same : mark_cost marked.table place ≡ mark_cost collector.table place = ap (λ (r : List (Option ℕ)). 1 + length r) (batch_written-other batch all start place (apart-front batch place rest (subst NoneTwice e once))) in
     let left_after : ℕ = left - batch_cost collector.table batch in
-    subst (λ (m : Marking). steps left_after left_after has_moved (after_mark (with_marking collector m) m.grey) ≡ record { units = 0; collector = after_mark (with_marking collector m) m.grey }) (sym is)
-    (stops-short (with_marking (with_phase collector Mark 0) (with_front (place ∷ rest) marked)) left_after has_moved (omega (arith, cost, same)))
+    grind (arith, stops-short, with_front)
 
 mark-stops : (collector : Collector) (left : ℕ) (has_moved : Bool) → collector.phase ≡ Mark → left < first_mark_cost collector.table collector.grey → steps left left has_moved collector ≡ record { units = 0; collector = collector }
 unfolding step_cost
-mark-stops collector left has_moved phase short =
-    let cost : step_cost collector has_moved ≡ first_mark_cost collector.table collector.grey = ap (λ p. cost_in p collector has_moved) phase in
-    stops-short collector left has_moved (omega (arith, cost))
+mark-stops collector left has_moved phase short = grind (arith, stops-short)
 
 -- The longest front ------------------------------------------------------------------------------
 
 module _ (table : Table Block) where
   no_front : (most left : ℕ) (grey : List ℕ) → ((other after : List ℕ) → grey ≡ other ++ after → length other ≤ most → batch_cost table other ≤ left → length other ≤ 0) → (0 ≡ most) ⊎ ((grey ≡ []) ⊎ (left < first_mark_cost table grey)) → IsLongestFront most table left grey []
-  no_front most left grey longest end = record { rest = grey; is_front = refl; few = omega arith; fits = omega arith; longest = longest; ended = by_end end }
-    where
-      by_end : (0 ≡ most) ⊎ ((grey ≡ []) ⊎ (left < first_mark_cost table grey)) → (0 ≡ most) ⊎ ((grey ≡ []) ⊎ (left < batch_cost table [] + first_mark_cost table grey))
-      by_end (inl full) = inl full
-      by_end (inr (inl none)) = inr (inl none)
-      by_end (inr (inr short)) = inr (inr (omega (arith, short)))
+  no_front most left grey longest end = grind arith
 
   nothing_in : (other after : List ℕ) → [] ≡ other ++ after → length other ≤ 0
   nothing_in [] after e = omega arith
@@ -200,42 +163,24 @@ module _ (table : Table Block) where
 
   too_dear : (place left : ℕ) (grey other after : List ℕ) → left < mark_cost table place → place ∷ grey ≡ other ++ after → batch_cost table other ≤ left → length other ≤ 0
   too_dear place left grey [] after dear e fits = omega arith
-  too_dear place left grey (x ∷ other) after dear e fits =
-      let same : place ≡ x = cc in
-      absurd (omega (arith, ap (mark_cost table) same, sum_by-cons (mark_cost table) x other))
+  too_dear place left grey (x ∷ other) after dear e fits = grind (arith, sum_by-cons (mark_cost table) x other)
 
   one_more : (most place left : ℕ) (grey batch : List ℕ) → mark_cost table place ≤ left → IsLongestFront most table (left - mark_cost table place) grey batch → IsLongestFront (suc most) table left (place ∷ grey) (place ∷ batch)
-  one_more most place left grey batch small after = record {
-    rest = after.rest;
-    is_front = ap (λ list. place ∷ list) after.is_front;
-    few = omega (arith, after.few);
-    fits = omega (arith, after.fits, cost);
-    longest = longest;
-    ended = by_end after.ended;
-  }
+  one_more most place left grey batch small after = grind (arith, cost, longest, by_end)
     where
       cost : batch_cost table (place ∷ batch) ≡ mark_cost table place + batch_cost table batch
       cost = sum_by-cons (mark_cost table) place batch
 
       longest : (other rest : List ℕ) → place ∷ grey ≡ other ++ rest → length other ≤ suc most → batch_cost table other ≤ left → length other ≤ suc (length batch)
       longest [] rest e few fits = omega arith
-      longest (x ∷ other) rest e few fits =
-          let same : place ≡ x = cc in
-          let tail : grey ≡ other ++ rest = cc in
-          let other_fits : batch_cost table other ≤ left - mark_cost table place = omega (arith, ap (mark_cost table) same, sum_by-cons (mark_cost table) x other) in
-          let fewer = after.longest other rest tail (omega arith) other_fits in
-          omega (arith, fewer)
+      longest (x ∷ other) rest e few fits = grind (arith, sum_by-cons (mark_cost table) x other)
 
       by_end : (length batch ≡ most) ⊎ ((after.rest ≡ []) ⊎ (left - mark_cost table place < batch_cost table batch + first_mark_cost table after.rest))
           → (suc (length batch) ≡ suc most) ⊎ ((after.rest ≡ []) ⊎ (left < batch_cost table (place ∷ batch) + first_mark_cost table after.rest))
-      by_end (inl full) = inl (ap suc full)
-      by_end (inr (inl none)) = inr (inl none)
-      by_end (inr (inr short)) = inr (inr (omega (arith, short, cost)))
+      by_end is = grind (arith, cost)
 
   longest_front-is : (most left : ℕ) (grey : List ℕ) → IsLongestFront most table left grey (longest_front most table left grey)
   unfolding longest_front
-  longest_front-is zero left grey = no_front zero left grey (λ other after e few fits. few) (inl refl)
-  longest_front-is (suc most) left [] = no_front (suc most) left [] (λ other after e few fits. nothing_in other after e) (inr (inl refl))
   longest_front-is (suc most) left (place ∷ grey) = go (nat_le (mark_cost table place) left) refl (longest_front-is most (left - mark_cost table place) grey)
     where
       go : (small : Bool) → nat_le (mark_cost table place) left ≡ small → IsLongestFront most table (left - mark_cost table place) grey (longest_front most table (left - mark_cost table place) grey)
@@ -244,6 +189,7 @@ module _ (table : Table Block) where
       go false e after =
           let dear : left < mark_cost table place = leb-false (mark_cost table place) left e in
           no_front (suc most) left (place ∷ grey) (λ other rest is few fits. too_dear place left grey other rest dear is fits) (inr (inr dear))
+  longest_front-is most left grey = grind (arith, no_front, nothing_in)
 
 -- Any cut into batches gives the machine of one block at a time
 pub any_cut : AnyCutIntoBatchesIsTheSame

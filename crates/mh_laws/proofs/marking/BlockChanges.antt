@@ -1,20 +1,10 @@
 -- One block changed, its stamp or its fields, with what is grey: promises stay.
-use Rattle.std.proofs.Common.{◌≡◌, ◌≢◌, ℕ, zero, suc, ◌+◌, ◌<◌, ◌≤◌, Bool, true, false, ◌⊎◌, inl, inr, List, [], ◌∷◌, length, get_or, set, Option, Some, None, option_map, option_and_then, unwrap_or, refl, sym, ap, ap₂, ◌∙◌, subst, arith, slice_get}
-use Rattle.std.proofs.lemmas.Bool.{cases_eq, false≢true}
-use Rattle.std.proofs.lemmas.Option.{none-some, same_Some}
-use Rattle.std.proofs.lemmas.List.{length-set}
-use Rattle.mh_model.specs.declared.cycle.Phase.{Phase}
-use Rattle.mh_model.specs.declared.cycle.Phase.TheVariants.{Roots, Mark, Sweep}
-use Rattle.mh_model.specs.declared.shape.Shape.{Shape}
-use Rattle.mh_model.specs.World.{World, births}
-use Rattle.mh_model.specs.Classes.{parts}
+use Rattle.std.proofs.Common.{◌≡◌, ◌≢◌, ℕ, zero, suc, ◌+◌, ◌<◌, ◌≤◌, Bool, true, false, ◌⊎◌, inl, inr, List, [], ◌∷◌, length, get_or, set, Option, Some, None, option_map, refl, sym, ap, ◌∙◌, subst, arith}
+use Rattle.std.proofs.{lemmas.Bool.cases_eq, lemmas.Option.{none-some, same_Some}, lemmas.List.length-set}
+use Rattle.mh_model.specs.{declared.cycle.Phase.Phase, declared.shape.Shape.Shape, World.{World, births}, Classes.parts}
 use Rattle.mh_model.specs.Pages.{Page, Table, page_number, slot_number, page_at, block_at, page_with, with_block}
-use Rattle.mh_model.specs.Table.{Block, resolve}
-use Rattle.mh_model.specs.Collector.{Collector, is_idle}
-use Rattle.mh_model.specs.Mutator.{in_roots_or_mark, in_roots}
-use Rattle.mh_model.specs.View.{in_sweep}
-use Rattle.mh_model.specs.Paths.{Reachable}
-use Rattle.mh_model.specs.Snapshot.{IsKept}
+use Rattle.mh_model.specs.{Table.{Block, resolve}, Collector.{Collector, is_idle}, Mutator.{in_roots_or_mark, in_roots}}
+use Rattle.mh_model.specs.{View.in_sweep, Paths.Reachable, Snapshot.IsKept}
 use Rattle.mh_model.specs.Invariant.{IsIn, IsPlainAt, LeadsToObject, LeadsToPart, IsStraight, IsPartOf, first_child, in_trace, IsSound, IsMarkedAt, Links, IsWhole, KeepsCycle, KeepsSnapshot}
 use Rattle.mh_table_laws.proofs.placing.Places.{block_at-with_block_same, block_at-with_block_other, block-slot}
 use Rattle.mh_laws.proofs.marking.MarkingPaths.{Keeps, promises_stay}
@@ -23,24 +13,20 @@ use Rattle.mh_laws.proofs.marking.MarkingPaths.{Keeps, promises_stay}
 
 -- a place leads to itself if its block is no forwarder, and else to where that leads
 pub resolve-live : (table : Table Block) (place : ℕ) (block : Block) → block_at table place ≡ Some block → block.forward ≡ None → resolve table place ≡ place
-resolve-live table place block there live = ap (λ o. unwrap_or (option_and_then (λ x. x.forward) o) place) there ∙ ap (λ o. unwrap_or o place) live
+resolve-live table place block there live = grind arith
 
 pub not_sweep : (phase : Phase) → in_roots_or_mark phase ≡ true → in_sweep phase ≡ true → ⊥
-not_sweep Roots m s = false≢true s
-not_sweep Mark m s = false≢true s
-not_sweep other m s = false≢true m
+not_sweep other m s = grind arith
 
 pub no_sweep : (phase : Phase) → in_roots_or_mark phase ≡ true → in_sweep phase ≡ false
-no_sweep Sweep m = absurd (false≢true m)
-no_sweep other m = refl
+no_sweep other m = grind arith
 
 pub roots_mark : (phase : Phase) → in_roots phase ≡ true → in_roots_or_mark phase ≡ true
-roots_mark Roots m = refl
-roots_mark other m = absurd (false≢true m)
+roots_mark other m = grind arith
 
 -- outside the sweep what is no forwarder is plain
 pub live_plain : (c : Collector) → in_sweep c.phase ≡ false → (q : ℕ) (x : Block) → block_at c.table q ≡ Some x → x.forward ≡ None → IsPlainAt c q x
-live_plain c out q x there live = record { there = there; original = live; surviving = λ s. absurd (false≢true (sym out ∙ s)) }
+live_plain c out q x there live = grind arith
 
 -- the change of a page in one slot, with the number of its slots and its flag
 pub pages-with_block : (table : Table Block) (place : ℕ) (content : Option Block) (number : ℕ) (page : Page Block) → page_at (with_block table place content) number ≡ Some page
@@ -48,18 +34,14 @@ pub pages-with_block : (table : Table Block) (place : ℕ) (content : Option Blo
 pages-with_block table place content number page e = go table (page_number place) number e
   where
     here : (content' : Option (Page Block)) → option_map (page_with (slot_number place) content) content' ≡ Some page → (old : Page Block) × (content' ≡ Some old) × (length page.slots ≡ length old.slots) × (page.is_flagged ≡ old.is_flagged)
-    here None h = absurd (none-some page h)
-    here (Some old) h =
-        let is = same_Some (page_with (slot_number place) content old) page h in
-        (old, refl, ap (λ z. length z.slots) (sym is) ∙ length-set _ _ _, ap (λ z. z.is_flagged) (sym is))
+    here content' h = grind (arith, none-some, same_Some, length-set)
 
     go : (pages : Table Block) (n m : ℕ) → page_at (set pages n (option_map (page_with (slot_number place) content) (page_at pages n))) m ≡ Some page
         → (old : Page Block) × (page_at pages m ≡ Some old) × (length page.slots ≡ length old.slots) × (page.is_flagged ≡ old.is_flagged)
     go [] n m h = absurd (none-some page h)
     go (x ∷ pages) zero zero h = here x h
-    go (x ∷ pages) zero (suc m) h = (page, h, refl, refl)
-    go (x ∷ pages) (suc n) zero h = (page, h, refl, refl)
     go (x ∷ pages) (suc n) (suc m) h = go pages n m h
+    go pages n m h = (page, h, refl, refl)
 
 -- Changes ----------------------------------------------------------------------------------------
 
@@ -73,10 +55,10 @@ pub record Alike (b b' : Block) : Type 0 where
   pub numbers : length b'.numbers ≡ length b.numbers
 
 pub alike_refl : (b : Block) → Alike b b
-alike_refl b = record { birth = refl; part = refl; header = refl; forward = refl; references = refl; numbers = refl }
+alike_refl b = grind arith
 
 child_alike : (shapes : ℕ → Shape) (b b' : Block) → Alike b b' → first_child (shapes b'.birth) b'.part ≡ first_child (shapes b.birth) b.part
-child_alike shapes b b' alike = ap₂ (λ birth part. first_child (shapes birth) part) alike.birth alike.part
+child_alike shapes b b' alike = grind arith
 
 -- The block at a place changes: it may be marked, and each of its references leads if one did or, if its fields are rewritten, to an object
 pub record IsChange (c : Collector) (p : ℕ) (b b' : Block) (grey' : List ℕ) : Type 0 where
@@ -111,71 +93,34 @@ module _ (c : Collector) (p : ℕ) (b b' : Block) (grey' : List ℕ) (change : I
 
   pub forth : (q : ℕ) (x : Block) → block_at c.table q ≡ Some x → (x' : Block) × Pair q x x'
   forth q x there = elim (cases_eq q p) [
-    | inl same ↦
-        let is : x ≡ b = same_Some x b (sym there ∙ ap (block_at c.table) same ∙ change.here) in
-        (b', record { old = there; new = ap (block_at changed.table) same ∙ at_here; alike = subst (λ y. Alike y b') (sym is) change.alike; case = inl (same, is, refl) })
+    | inl same ↦ grind (arith, same_Some, at_here)
     | inr apart ↦ (x, record { old = there; new = at_other q apart ∙ there; alike = alike_refl x; case = inr refl })
   ]
 
   pub back : (q : ℕ) (x' : Block) → block_at changed.table q ≡ Some x' → (x : Block) × Pair q x x'
-  back q x' there = elim (cases_eq q p) [
-    | inl same ↦
-        let is : x' ≡ b' = same_Some x' b' (sym there ∙ ap (block_at changed.table) same ∙ at_here) in
-        (b, record { old = ap (block_at c.table) same ∙ change.here; new = there; alike = subst (Alike b) (sym is) change.alike; case = inl (same, refl, is) })
-    | inr apart ↦ (x', record { old = sym (at_other q apart) ∙ there; new = there; alike = alike_refl x'; case = inr refl })
-  ]
+  back q x' there = grind (arith, cases_eq, same_Some, at_here, at_other, alike_refl)
 
   pub resolve-changed : (r : ℕ) → resolve changed.table r ≡ resolve c.table r
-  resolve-changed r = go (block_at c.table r) refl
-    where
-      go : (o : Option Block) → block_at c.table r ≡ o → resolve changed.table r ≡ resolve c.table r
-      go (Some x) is =
-          let (x', pair) = forth r x is in
-          ap (λ o. unwrap_or (option_and_then (λ y. y.forward) o) r) pair.new ∙ ap (λ o. unwrap_or o r) pair.alike.forward ∙ ap (λ o. unwrap_or (option_and_then (λ y. y.forward) o) r) (sym is)
-      go None is = elim (cases_eq r p) [
-        | inl same ↦ absurd (none-some b (sym is ∙ ap (block_at c.table) same ∙ change.here))
-        | inr apart ↦ ap (λ o. unwrap_or (option_and_then (λ y. y.forward) o) r) (at_other r apart)
-      ]
+  resolve-changed r = grind (arith, forth, cases_eq, none-some, at_other)
 
   -- stamps
   stamp_of : (q : ℕ) (x x' : Block) → Pair q x x' → (x'.stamp ≡ x.stamp) ⊎ ((in_roots_or_mark c.phase ≡ true) × (x'.stamp ≡ c.cycle) × IsIn q grey')
-  stamp_of q x x' pair = elim pair.case [
-    | inr same ↦ inl (ap (λ y. y.stamp) same)
-    | inl k ↦ elim change.stamp [
-      | inl same ↦ inl (ap (λ y. y.stamp) k.2 ∙ same ∙ sym (ap (λ y. y.stamp) k.1))
-      | inr anew ↦ inr (anew.0, ap (λ y. y.stamp) k.2 ∙ anew.1, subst (λ z. IsIn z grey') (sym k.0) anew.2)
-    ]
-  ]
+  stamp_of q x x' pair = grind arith
 
   marked_still : (q : ℕ) (x x' : Block) → Pair q x x' → x.stamp ≡ c.cycle → x'.stamp ≡ c.cycle
-  marked_still q x x' pair s = elim (stamp_of q x x' pair) [ inl same ↦ same ∙ s | inr anew ↦ anew.1 ]
+  marked_still q x x' pair s = grind arith
 
   plain_forth : (q : ℕ) (x : Block) → IsPlainAt c q x → (x' : Block) × Alike x x' × IsPlainAt changed q x'
-  plain_forth q x plain =
-      let (x', pair) = forth q x plain.there in
-      (x', pair.alike, record { there = pair.new; original = pair.alike.forward ∙ plain.original; surviving = λ s. marked_still q x x' pair (plain.surviving s) })
+  plain_forth q x plain = grind (arith, forth q x plain.there)
 
   plain_back : (q : ℕ) (x' : Block) → IsPlainAt changed q x' → (x : Block) × Pair q x x' × IsPlainAt c q x
-  plain_back q x' plain =
-      let (x, pair) = back q x' plain.there in (
-        x,
-        pair,
-        record {
-          there = pair.old;
-          original = sym pair.alike.forward ∙ plain.original;
-          surviving = λ s. elim (stamp_of q x x' pair) [ inl same ↦ sym same ∙ plain.surviving s | inr anew ↦ absurd (not_sweep c.phase anew.0 s) ];
-        },
-      )
+  plain_back q x' plain = grind (arith, back q x' plain.there)
 
   object_forth : (r s : ℕ) → resolve c.table r ≡ resolve c.table s → LeadsToObject c s → LeadsToObject changed r
-  object_forth r s e (x, plain, is) =
-      let (x', alike, plain') = plain_forth (resolve c.table s) x plain in
-      (x', subst (λ q. IsPlainAt changed q x') (sym (resolve-changed r ∙ e)) plain', alike.part ∙ is)
+  object_forth r s e (x, plain, is) = grind (arith, plain_forth (resolve c.table s) x plain, resolve-changed r)
 
   part_forth : (r s birth part : ℕ) → resolve c.table r ≡ resolve c.table s → LeadsToPart c s birth part → LeadsToPart changed r birth part
-  part_forth r s birth part e (x, plain, is, is') =
-      let (x', alike, plain') = plain_forth (resolve c.table s) x plain in
-      (x', subst (λ q. IsPlainAt changed q x') (sym (resolve-changed r ∙ e)) plain', alike.birth ∙ is, alike.part ∙ is')
+  part_forth r s birth part e (x, plain, is, is') = grind (arith, plain_forth (resolve c.table s) x plain, resolve-changed r)
 
   -- The state alone ------------------------------------------------------------------------------
 
@@ -214,13 +159,7 @@ module _ (c : Collector) (p : ℕ) (b b' : Block) (grey' : List ℕ) (change : I
   }
     where
       part_still : (x x' : Block) → Alike x x' → IsPartOf (h.shapes x.birth) x → IsPartOf (h.shapes x'.birth) x'
-      part_still x x' alike is = record {
-        part = is.part;
-        is = subst (λ z. slice_get (parts (h.shapes z).references (h.shapes z).numbers) x'.part ≡ Some is.part) (sym alike.birth) (subst (λ z. slice_get (parts (h.shapes x.birth).references (h.shapes x.birth).numbers) z ≡ Some is.part) (sym alike.part) is.is);
-        header = alike.header ∙ is.header;
-        references = alike.references ∙ is.references;
-        numbers = alike.numbers ∙ is.numbers;
-      }
+      part_still x x' alike is = grind arith
 
       fields : (q : ℕ) (x x' : Block) → Pair q x x' → IsPlainAt c q x → first_child (h.shapes x'.birth) x'.part ≡ None → (i r : ℕ) → get_or x'.references i None ≡ Some r → LeadsToObject changed r
       fields q x x' pair old flat i r e = elim pair.case [
@@ -233,11 +172,7 @@ module _ (c : Collector) (p : ℕ) (b b' : Block) (grey' : List ℕ) (change : I
 
       -- the changed block isn't rewritten if it has children
       not_rewritten : (child : ℕ) → first_child (h.shapes b.birth) b.part ≡ Some child → change.rewrites ≡ false
-      not_rewritten child spine = by change.rewrites refl
-        where
-          by : (w : Bool) → change.rewrites ≡ w → change.rewrites ≡ false
-          by false e = e
-          by true e = absurd (none-some child (sym (is_flat e) ∙ spine))
+      not_rewritten child spine = grind arith
 
       spines : (q : ℕ) (x x' : Block) (child : ℕ) → Pair q x x' → IsPlainAt c q x → first_child (h.shapes x'.birth) x'.part ≡ Some child → (i : ℕ) → i < length x'.references → (r : ℕ) × (get_or x'.references i None ≡ Some r) × LeadsToPart changed r x'.birth (child + i)
       spines q x x' child pair old spine i below =
@@ -252,10 +187,7 @@ module _ (c : Collector) (p : ℕ) (b b' : Block) (grey' : List ℕ) (change : I
           ]
 
       original : in_trace c.phase ≡ true → (q : ℕ) (x x' : Block) → Pair q x x' → x'.stamp ≡ c.cycle → x.forward ≡ None
-      original t q x x' pair s = elim pair.case [
-        | inr same ↦ h.original t q x pair.old (sym (ap (λ z. z.stamp) same) ∙ s)
-        | inl k ↦ ap (λ z. z.forward) k.1 ∙ change.original t (sym (ap (λ z. z.stamp) k.2) ∙ s)
-      ]
+      original t q x x' pair s = grind arith
 
       straight_still : (x : Block) → IsStraight c.table x → IsStraight changed.table x
       straight_still x is i r e = resolve-changed r ∙ is i r e
@@ -343,4 +275,4 @@ module _ (c : Collector) (p : ℕ) (b b' : Block) (grey' : List ℕ) (change : I
           )
 
   pub snapshot-changed : (snapshot : World) (n : ℕ) → IsKeptChange snapshot n → (h : KeepsSnapshot snapshot n c) → IsFlat h.sound.shapes → KeepsSnapshot snapshot n changed
-  snapshot-changed snapshot n k h is_flat = record { sound = sound-changed n h.sound is_flat; before = h.before; cycle = cycle-changed snapshot n k h.cycle }
+  snapshot-changed snapshot n k h is_flat = search (arith, sound-changed, cycle-changed)

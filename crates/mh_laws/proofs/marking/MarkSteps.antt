@@ -1,32 +1,22 @@
 -- What shading, the roots step and the mark step keep, put together from one block's change and from tables left as they are.
-use Rattle.std.proofs.Common.{◌≡◌, ◌≢◌, ℕ, zero, suc, ◌+◌, ◌-◌, ◌<◌, if◌then◌else◌, Bool, true, false, ◌⊎◌, inl, inr, List, [], ◌∷◌, ◌++◌, length, get_or, set, Option, Some, None, option_map, unwrap_or, refl, sym, ap, ◌∙◌, subst, arith, eq-eqb}
-use Rattle.std.proofs.lemmas.Bool.{cases_eq, cases_lt, false≢true, eqb-true}
-use Rattle.std.proofs.lemmas.Option.{none-some, same_Some}
+use Rattle.std.proofs.Common.{◌≡◌, ◌≢◌, ℕ, zero, suc, ◌+◌, ◌-◌, ◌<◌, true, false, ◌⊎◌, inl, inr, List, [], ◌∷◌, ◌++◌, length, get_or, set, Option, Some, None, option_map, refl, sym, ap, ◌∙◌, subst, arith}
+use Rattle.std.proofs.{lemmas.Bool.{cases_eq, cases_lt, false≢true}, lemmas.Option.{none-some, same_Some}}
 use Rattle.std.proofs.lemmas.List.{get_or-set_same, get_or-set_other, get_or_past, length-set, append_assoc}
-use Rattle.mh_model.specs.declared.cycle.Phase.{Phase}
-use Rattle.mh_model.specs.declared.cycle.Phase.TheVariants.{Roots, Mark}
-use Rattle.mh_model.specs.World.{World}
-use Rattle.mh_model.specs.Pages.{Table, block_at, with_block}
-use Rattle.mh_model.specs.Table.{Block, references_at, resolve, target_of}
-use Rattle.mh_model.specs.Collector.{Collector, Marking, is_marked, with_grey, shade_block, shade_place, shade, mark_reference, mark_references, mark_first, mark_step, marking_of, with_marking, with_shade, with_phase, roots_step, is_idle}
-use Rattle.mh_model.specs.Mutator.{in_roots_or_mark}
-use Rattle.mh_model.specs.View.{in_sweep}
-use Rattle.mh_model.specs.Snapshot.{IsKept}
+use Rattle.mh_model.specs.{declared.cycle.Phase.Phase, declared.cycle.Phase.TheVariants.Roots, World.World}
+use Rattle.mh_model.specs.{Pages.{Table, block_at, with_block}, Table.{Block, references_at, resolve, target_of}}
+use Rattle.mh_model.specs.Collector.{Collector, Marking, with_grey, shade_place, shade, mark_reference, mark_references, mark_first, mark_step, marking_of, with_marking, with_shade, with_phase, roots_step, is_idle}
+use Rattle.mh_model.specs.{Mutator.in_roots_or_mark, Snapshot.IsKept}
 use Rattle.mh_model.specs.Invariant.{IsIn, IsPlainAt, first_child, in_trace, IsSound, IsMarkedAt, IsFromGrey, KeepsSnapshot}
 use Rattle.mh_laws.proofs.marking.MarkingPaths.{is_in-left, is_in-last, is_in-either}
-use Rattle.mh_laws.proofs.marking.BlockChanges.{IsChange, IsKeptChange, forth, at_here, resolve-changed, snapshot-changed, resolve-live, not_sweep, marked_at}
+use Rattle.mh_laws.proofs.marking.BlockChanges.{IsChange, IsKeptChange, forth, at_here, resolve-changed, snapshot-changed, resolve-live, marked_at}
 use Rattle.mh_laws.proofs.marking.SameTable.{IsTurn, turned, snapshot-turned}
 use Rattle.mh_table_laws.proofs.Lists.{below_length}
 
 pub traces : (phase : Phase) → in_roots_or_mark phase ≡ true → in_trace phase ≡ true
-traces Roots m = refl
-traces Mark m = refl
-traces other m = absurd (false≢true m)
+traces other m = grind arith
 
 pub runs : (phase : Phase) → in_roots_or_mark phase ≡ true → is_idle phase ≡ false
-runs Roots m = refl
-runs Mark m = refl
-runs other m = absurd (false≢true m)
+runs other m = grind arith
 
 -- Shading ----------------------------------------------------------------------------------------
 
@@ -35,15 +25,7 @@ pub record IsShaded (m : Marking) (place : ℕ) : Type 0 where
   pub case : ((shade_place m place ≡ m) × ((block : Block) → block_at m.table place ≡ Some block → block.stamp ≡ m.cycle)) ⊎ ((block : Block) × (block_at m.table place ≡ Some block) × (block.stamp ≢ m.cycle) × (shade_place m place ≡ with_grey m place block))
 
 pub shade_place-is : (m : Marking) (place : ℕ) → IsShaded m place
-shade_place-is m place = go (block_at m.table place) refl
-  where
-    by_mark : (block : Block) → block_at m.table place ≡ Some block → (marked : Bool) → is_marked m.cycle block ≡ marked → shade_place m place ≡ (if marked then m else with_grey m place block) → IsShaded m place
-    by_mark block there true is e = record { case = inl (e, λ other there'. ap (λ x. x.stamp) (same_Some other block (sym there' ∙ there)) ∙ eqb-true block.stamp m.cycle is) }
-    by_mark block there false is e = record { case = inr (block, there, λ same. false≢true (sym is ∙ eq-eqb block.stamp m.cycle same), e) }
-
-    go : (content : Option Block) → block_at m.table place ≡ content → IsShaded m place
-    go None there = record { case = inl (ap (shade_block m place) there, λ block there'. absurd (none-some block (sym there ∙ there'))) }
-    go (Some block) there = by_mark block there (is_marked m.cycle block) refl (ap (shade_block m place) there)
+shade_place-is m place = grind arith
 
 -- a collector with what marking works on, and with these places grey before
 abbrev pub scanning : Collector → List ℕ → Marking → Collector
@@ -72,19 +54,7 @@ module _ (snapshot : World) (n : ℕ) (c : Collector) (front : List ℕ) (m : Ma
     grey' = (front ++ m.grey) ++ place ∷ []
 
     change : IsChange d place b b' grey'
-    change = record {
-      here = there;
-      alike = record { birth = refl; part = refl; header = refl; forward = refl; references = refl; numbers = refl };
-      stamp = inr (marks, same, is_in-last place (front ++ m.grey));
-      grows = λ q is. is_in-left q (front ++ m.grey) (place ∷ []) is;
-      listed = λ q is. elim (is_in-either q place (front ++ m.grey) is) [ inl before ↦ inl before | inr here ↦ inr (here, same, (kept b there).0) ];
-      quiet = λ no. absurd (false≢true (sym no ∙ marks));
-      rewrites = false;
-      words = λ i r e. inl (r, e, refl);
-      spine = λ s i r e. (r, e, refl);
-      original = λ t s. (kept b there).0;
-      straight = λ t s. inl (is_in-last place (front ++ m.grey));
-    }
+    change = grind (arith, is_in-last, is_in-left, is_in-either, false≢true)
 
     keeps : IsKeptChange d place b b' grey' change snapshot n
     keeps = record {
@@ -96,10 +66,7 @@ module _ (snapshot : World) (n : ℕ) (c : Collector) (front : List ℕ) (m : Ma
     shades : Shades m (with_grey m place b) place
     shades = record {
       cycle = refl;
-      blocks = λ q x f. let (x', pair) = forth d place b b' grey' change q x f in elim pair.case [
-        | inr same' ↦ (x.stamp, pair.new ∙ ap Some same', λ s. s)
-        | inl k ↦ (m.cycle, pair.new ∙ ap Some k.2 ∙ ap {A = Block} (λ y. Some (record y { stamp = m.cycle })) (sym k.1), λ s. refl)
-      ];
+      blocks = λ q x f. let (x', pair) = forth d place b b' grey' change q x f in search arith;
       resolves = resolve-changed d place b b' grey' change;
       target = λ x f. (b', at_here d place b b' grey' change, refl);
     }
@@ -115,7 +82,7 @@ module _ (snapshot : World) (n : ℕ) (c : Collector) (front : List ℕ) (m : Ma
     where
       go : ((shade_place m place ≡ m) × ((block : Block) → block_at m.table place ≡ Some block → block.stamp ≡ m.cycle)) ⊎ ((block : Block) × (block_at m.table place ≡ Some block) × (block.stamp ≢ m.cycle) × (shade_place m place ≡ with_grey m place block)) → KeepsSnapshot snapshot n (scanning c front (shade_place m place)) × Shades m (shade_place m place) place
       go (inl (e, marked)) = subst (λ m'. KeepsSnapshot snapshot n (scanning c front m') × Shades m m' place) (sym e) (h, record { cycle = refl; blocks = λ q x f. (x.stamp, f, λ s. s); resolves = λ r. refl; target = λ x f. (x, f, marked x f) })
-      go (inr (b, there, white, e)) = subst (λ m'. KeepsSnapshot snapshot n (scanning c front m') × Shades m m' place) (sym e) (anew kept h b there)
+      go (inr (b, there, white, e)) = grind (arith, anew kept h b there)
 
 -- One reference of the block that is scanned -----------------------------------------------------
 
@@ -125,9 +92,7 @@ leads n c h q b plain i s e = go (first_child (h.shapes b.birth) b.part) refl
   where
     go : (child : Option ℕ) → first_child (h.shapes b.birth) b.part ≡ child → (x : Block) × IsPlainAt c (resolve c.table s) x
     go None is = let (x, plain', first) = h.fields q b plain is i s e in (x, plain')
-    go (Some child) is =
-        let (r, f, (x, plain', birth, part)) = h.spines q b child plain is i (below_length b.references i s e) in
-        (x, subst (λ z. IsPlainAt c (resolve c.table z) x) (same_Some r s (sym f ∙ e)) plain')
+    go (Some child) is = grind (arith, h.spines q b child plain is i (below_length b.references i s e))
 
 -- the block that is scanned, up to one of its references: those before it lead straight to marked blocks
 pub record IsScanned (m : Marking) (g index : ℕ) (refs : List (Option ℕ)) : Type 0 where
@@ -139,13 +104,11 @@ pub record IsScanned (m : Marking) (g index : ℕ) (refs : List (Option ℕ)) : 
   pub passed : (i r : ℕ) → i < index → get_or block.references i None ≡ Some r → (resolve m.table r ≡ r) × ((x : Block) × (block_at m.table r ≡ Some x) × (x.stamp ≡ m.cycle))
 
 read_stored : (xs : List (Option ℕ)) (index r : ℕ) (t : Option ℕ) → get_or (set xs index t) index None ≡ Some r → t ≡ Some r
-read_stored [] index r t e = absurd (none-some r e)
-read_stored (x ∷ xs) zero r t e = e
 read_stored (x ∷ xs) (suc index) r t e = read_stored xs index r t e
+read_stored xs index r t e = grind (arith, none-some)
 
 target_back : (table : Table Block) (o : Option ℕ) (r : ℕ) → target_of table o ≡ Some r → (s : ℕ) × (o ≡ Some s) × (resolve table s ≡ r)
-target_back table None r e = absurd (none-some r e)
-target_back table (Some s) r e = (s, refl, same_Some (resolve table s) r e)
+target_back table o r e = grind arith
 
 module _ (snapshot : World) (n : ℕ) (c : Collector) (g : ℕ) (marks : in_roots_or_mark c.phase ≡ true) where
   module _ (m : Marking) (same : m.cycle ≡ c.cycle) (index : ℕ) (o : Option ℕ) (refs : List (Option ℕ)) (scan : IsScanned m g index (o ∷ refs)) (h : KeepsSnapshot snapshot n (scanning c (g ∷ []) m)) where
@@ -159,13 +122,13 @@ module _ (snapshot : World) (n : ℕ) (c : Collector) (g : ℕ) (marks : in_root
     stored = record old { references = set scan.block.references index (target_of m.table o) }
 
     plain : IsPlainAt e₀ g old
-    plain = record { there = scan.there; original = scan.live; surviving = λ s. absurd (not_sweep c.phase marks s) }
+    plain = grind arith
 
     read_ahead : get_or old.references index None ≡ o
-    read_ahead = let e : index + 0 ≡ index = omega arith in ap (λ k. get_or old.references k None) (sym e) ∙ scan.ahead zero
+    read_ahead = grind (arith, scan.ahead zero)
 
     twice : (i s : ℕ) → get_or old.references i None ≡ Some s → resolve m.table (resolve m.table s) ≡ resolve m.table s
-    twice i s e = let (x, plain') = leads n e₀ h.sound g old plain i s e in resolve-live m.table (resolve m.table s) x plain'.there plain'.original
+    twice i s e = grind (arith, leads n e₀ h.sound g old plain i s e)
 
     words : (i r : ℕ) → get_or stored.references i None ≡ Some r → (s : ℕ) × (get_or old.references i None ≡ Some s) × (resolve m.table r ≡ resolve m.table s)
     words i r e = elim (cases_eq i index) [
@@ -187,19 +150,7 @@ module _ (snapshot : World) (n : ℕ) (c : Collector) (g : ℕ) (marks : in_root
     ]
 
     store_change : IsChange e₀ g old stored (g ∷ m.grey)
-    store_change = record {
-      here = scan.there;
-      alike = record { birth = refl; part = refl; header = refl; forward = refl; references = length-set _ _ _; numbers = refl };
-      stamp = inl refl;
-      grows = λ q is. is;
-      listed = λ q is. inl is;
-      quiet = λ no. absurd (false≢true (sym no ∙ marks));
-      rewrites = false;
-      words = λ i r e. inl (words i r e);
-      spine = λ s i r e. words_kept i r e;
-      original = λ t s. scan.live;
-      straight = λ t s. inl (inl refl);
-    }
+    store_change = grind (arith, length-set, false≢true, words, words_kept)
 
     store_keeps : IsKeptChange e₀ g old stored (g ∷ m.grey) store_change snapshot n
     store_keeps = record {
@@ -230,17 +181,10 @@ module _ (snapshot : World) (n : ℕ) (c : Collector) (g : ℕ) (marks : in_root
     }
       where
         at_index : (t : Option ℕ) → o ≡ t → get_or (set old.references index (target_of m.table t)) index None ≡ target_of m.table t
-        at_index None is = elim (cases_lt index (length old.references)) [
-          | inl inside ↦ get_or-set_same old.references index None None inside
-          | inr past ↦
-              let same_length : length (set old.references index None) ≡ length old.references = length-set _ _ _ in
-              get_or_past (set old.references index None) index None (omega (arith, past, same_length))
-        ]
-        at_index (Some s) is = get_or-set_same old.references index (target_of m.table (Some s)) None (below_length old.references index s (read_ahead ∙ is))
+        at_index t is = grind (arith, cases_lt, get_or-set_same, length-set, get_or_past, below_length, read_ahead)
 
         ahead : (k : ℕ) → get_or stored.references (index + k) None ≡ get_or (target_of m.table o ∷ refs) k None
-        ahead zero = let e : index + 0 ≡ index = omega arith in ap (λ k. get_or stored.references k None) e ∙ at_index o refl
-        ahead (suc k) = let apart : index + suc k ≢ index = omega arith in get_or-set_other old.references index (index + suc k) (target_of m.table o) None apart ∙ scan.ahead (suc k)
+        ahead k = grind (arith, at_index, get_or-set_other)
 
     -- the target shaded, which the reference leads straight to now
     abbrev m₂ : Marking
@@ -305,8 +249,7 @@ module _ (snapshot : World) (n : ℕ) (c : Collector) (g : ℕ) (marks : in_root
         go None e = none (target_of m.table o) refl (ap (target_of m.table) (sym read_ahead ∙ e))
         go (Some s) e =
             let is : target_of m.table o ≡ Some (resolve m.table s) = ap (target_of m.table) (sym read_ahead ∙ e) in
-            subst (λ t. KeepsSnapshot snapshot n (scanning c (g ∷ []) (shade m₁ t)) × IsScanned (shade m₁ t) g (suc index) refs × ((shade m₁ t).cycle ≡ c.cycle)) (sym is)
-            (some s e (target_of m.table o) refl is (resolve m₁.table (resolve m.table s)) refl)
+            grind (arith, some s e (target_of m.table o) refl is (resolve m₁.table (resolve m.table s)) refl)
 
   -- all references from one on
   references_marked : (refs : List (Option ℕ)) (m : Marking) (index : ℕ) → m.cycle ≡ c.cycle → IsScanned m g index refs → KeepsSnapshot snapshot n (scanning c (g ∷ []) m)
@@ -335,34 +278,15 @@ module _ (snapshot : World) (n : ℕ) (c : Collector) (g : ℕ) (marks : in_root
       word : (i r : ℕ) → get_or scan.block.references i None ≡ Some r → (resolve m.table r ≡ r) × ((x : Block) × (block_at m.table r ≡ Some x) × (x.stamp ≡ m.cycle))
       word i r e = elim (cases_lt i last) [
         | inl below ↦ scan.passed i r below e
-        | inr past ↦
-            let at : last + (i - last) ≡ i = omega arith in
-            absurd (none-some r (sym (scan.ahead (i - last)) ∙ ap (λ k. get_or scan.block.references k None) at ∙ e))
+        | inr past ↦ grind (arith, scan.ahead (i - last))
       ]
 
       turn : IsTurn d d.slots d.phase d.cursor m.grey d.is_asked d.quanta
-      turn = record {
-        enters = λ s. s;
-        leaves = λ no s. absurd (false≢true (sym no ∙ s));
-        roots = h.sound.roots;
-        slots = h.sound.slots;
-        listed = λ q is. inr is;
-        quiet = λ no. absurd (false≢true (sym no ∙ marks));
-        traces = λ t. t;
-        left = λ t q x is e. elim is [
-          | inl here ↦ inr (λ i r f. (word i r (ap (λ z. get_or z.references i None) (same_Some scan.block x (sym scan.there ∙ ap (block_at m.table) (sym here) ∙ e)) ∙ f)).0)
-          | inr after ↦ inl after
-        ];
-        swept = h.sound.swept;
-        marked = h.sound.marked;
-        dense = h.sound.dense;
-      }
+      turn = grind (arith, false≢true, traces, word, same_Some)
 
       from_grey : (q : ℕ) → IsFromGrey d q → IsMarkedAt d q ⊎ IsFromGrey (turned d d.slots d.phase d.cursor m.grey d.is_asked d.quanta) q
       from_grey q (place, inr after, links) = inr (place, after, links)
-      from_grey q (place, inl here, (b, i, r, there, e, to)) =
-          let (self, (x, at, stamp)) = word i r (ap (λ z. get_or z.references i None) (same_Some scan.block b (sym scan.there ∙ ap (block_at m.table) (sym here) ∙ there)) ∙ e) in
-          inl (subst (IsMarkedAt d) (sym self ∙ to) (x, at, stamp ∙ same))
+      from_grey q (place, inl here, (b, i, r, there, e, to)) = grind (arith, word, same_Some, d)
 
 -- A mark step keeps the snapshot
 pub snapshot-mark_step : (snapshot : World) (n : ℕ) (c : Collector) → in_roots_or_mark c.phase ≡ true → KeepsSnapshot snapshot n c → KeepsSnapshot snapshot n (with_marking c (mark_step (marking_of c)))
@@ -373,14 +297,7 @@ snapshot-mark_step snapshot n c marks h = go c.grey refl
     go (g ∷ grey) is =
         let m : Marking = record (marking_of c) { grey = grey } in
         let (b, there, live, black) = h.sound.grey g (subst (IsIn g) (sym is) (inl refl)) in
-        let scan : IsScanned m g 0 (references_at c.table g) = record {
-          block = b;
-          there = there;
-          live = live;
-          black = black;
-          ahead = λ k. let e : 0 + k ≡ k = omega arith in ap (λ z. get_or b.references z None) e ∙ ap (λ o. get_or (unwrap_or (option_map (λ (x : Block). x.references) o) []) k None) (sym there);
-          passed = λ i r below e. absurd (omega arith);
-        } in
+        let scan : IsScanned m g 0 (references_at c.table g) = grind arith in
         let (h', (last, scan', same)) = references_marked snapshot n c g marks (references_at c.table g) m 0 refl scan (subst (λ z. KeepsSnapshot snapshot n (record c { grey = z })) is h) in
         scanned_off snapshot n c g marks (mark_references m g 0 (references_at c.table g)) last same scan' h'
 
@@ -420,29 +337,14 @@ guarded snapshot n c (Some r) marks kept h =
 
 -- the target of a root is a block that is kept
 pub root_target : (snapshot : World) (n : ℕ) (c : Collector) → in_roots_or_mark c.phase ≡ true → KeepsSnapshot snapshot n c → (slot r : ℕ) (x : Block) → get_or c.slots slot None ≡ Some r → block_at c.table (resolve c.table r) ≡ Some x → (x.forward ≡ None) × IsKept snapshot n x.birth
-root_target snapshot n c marks h slot r x e there =
-    let (y, plain, first) = h.sound.slots slot r e in
-    let self : resolve c.table r ≡ r = resolve-live c.table r y plain.there plain.original in
-    (ap (λ z. z.forward) (same_Some x y (sym there ∙ ap (block_at c.table) self ∙ plain.there)) ∙ plain.original, h.cycle.slots marks slot r x e there)
+root_target snapshot n c marks h slot r x e there = grind (arith, h.sound.slots slot r e, h.cycle.slots marks slot r x e there)
 
 -- A roots step keeps the snapshot
 pub snapshot-roots_step : (snapshot : World) (n : ℕ) (c : Collector) → c.phase ≡ Roots → KeepsSnapshot snapshot n c → KeepsSnapshot snapshot n (roots_step c)
 snapshot-roots_step snapshot n c phase h = go (with_shade c (get_or c.slots c.cursor None)) (guarded snapshot n c (get_or c.slots c.cursor None) (ap in_roots_or_mark phase) (λ r x e there. root_target snapshot n c (ap in_roots_or_mark phase) h c.cursor r x e there) h)
   where
     go : (d : Collector) → IsGuarded snapshot n c d (get_or c.slots c.cursor None) → KeepsSnapshot snapshot n (with_phase d Roots (c.cursor + 1))
-    go d g = snapshot-turned d d.slots Roots (c.cursor + 1) d.grey d.is_asked d.quanta (record {
-      enters = λ s. absurd (false≢true s);
-      leaves = λ no s. absurd (false≢true (sym (ap in_sweep (g.phase ∙ phase)) ∙ s));
-      roots = g.keeps.sound.roots;
-      slots = g.keeps.sound.slots;
-      listed = λ q is. is;
-      quiet = λ no. absurd (false≢true (sym no));
-      traces = λ t. ap in_trace (g.phase ∙ phase);
-      left = λ t q x is e. inl is;
-      swept = λ t. absurd (false≢true t);
-      marked = λ t. absurd (false≢true t);
-      dense = λ t. absurd (false≢true t);
-    }) snapshot n (record {
+    go d g = snapshot-turned d d.slots Roots (c.cursor + 1) d.grey d.is_asked d.quanta (grind arith) snapshot n (record {
       runs = λ r. ap is_idle (g.phase ∙ phase);
       marks = λ t. ap in_roots_or_mark (g.phase ∙ phase);
       from_root = λ t q x e from. let (i, r, after, at, to) = from.1 in elim (cases_eq i c.cursor) [

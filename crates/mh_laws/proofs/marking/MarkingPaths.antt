@@ -1,11 +1,9 @@
 -- Ways of marking, the heart of the proof that a snapshot is kept. Each block that the snapshot reached is marked or *promised*:
 -- a path through unmarked blocks leads to it from a grey block, or from a root that isn't scanned.
 -- The record `Keeps` says what a change has to keep so that each block that is promised is marked or promised still.
-use Rattle.std.proofs.Common.{◌≡◌, ℕ, ◌⊎◌, inl, inr, None, List, [], ◌∷◌, ◌++◌, Some, refl, sym, ap, ◌∙◌, subst}
+use Rattle.std.proofs.Common.{◌≡◌, ℕ, ◌⊎◌, inl, inr, None, List, [], ◌∷◌, ◌++◌, Some, refl, sym, ap, ◌∙◌, subst, arith}
 use Rattle.std.proofs.lemmas.Option.{same_Some}
-use Rattle.mh_model.specs.Pages.{block_at}
-use Rattle.mh_model.specs.Table.{Block}
-use Rattle.mh_model.specs.Collector.{Collector}
+use Rattle.mh_model.specs.{Pages.block_at, Table.Block, Collector.Collector}
 use Rattle.mh_model.specs.Invariant.{IsIn, IsMarkedAt, Links, IsFromRoot, IsFromGrey, IsWay, WillBeMarked}
 
 -- what becomes of a block: it stays but for its stamp and its fields, and if it is marked anew it is grey
@@ -23,9 +21,7 @@ pub record Keeps (c d : Collector) : Type 0 where
 
 -- what is marked stays so
 pub marked_stays : (c d : Collector) → Keeps c d → (place : ℕ) → IsMarkedAt c place → IsMarkedAt d place
-marked_stays c d keeps place (block, there, stamp) =
-    let (new, there', birth, forward, marks) = keeps.blocks place block there in
-    (new, there', elim marks [ inl same ↦ same ∙ stamp ∙ sym keeps.cycle | inr anew ↦ anew.0 ∙ sym keeps.cycle ])
+marked_stays c d keeps place (block, there, stamp) = grind arith
 
 pub promise_stays : (c d : Collector) → Keeps c d → (way : List ℕ) (target : ℕ) (block : Block) → block_at c.table target ≡ Some block → IsWay c target way → IsMarkedAt d target ⊎ WillBeMarked d target
 promise_stays c d keeps [] target block there (inl from) = keeps.roots target block there from
@@ -36,9 +32,7 @@ promise_stays c d keeps (near ∷ way) target block there ((white, at_white, liv
     go : StaysAt c d near white → IsMarkedAt d target ⊎ Links d.table near target → IsMarkedAt d near ⊎ WillBeMarked d near → IsMarkedAt d target ⊎ WillBeMarked d target
     go stays (inl marked) before = inl marked
     go (new, at_new, birth, forward, inr anew) (inr link) before = inr ([], inr (near, anew.1, link))
-    go (new, at_new, birth, forward, inl same) (inr link) (inl (other, at_other, stamp)) =
-        let one : new ≡ other = same_Some new other (sym at_new ∙ at_other) in
-        absurd (unmarked (sym same ∙ ap (λ x. x.stamp) one ∙ stamp ∙ keeps.cycle))
+    go (new, at_new, birth, forward, inl same) (inr link) (inl (other, at_other, stamp)) = grind arith
     go (new, at_new, birth, forward, inl same) (inr link) (inr (before, is_way)) =
         inr (near ∷ before, ((new, at_new, forward ∙ live, λ stamp. unmarked (sym same ∙ stamp ∙ keeps.cycle)), link, is_way))
 
@@ -79,7 +73,6 @@ is_in-last place [] = inl refl
 is_in-last place (first ∷ places) = inr (is_in-last place places)
 
 pub is_in-either : (place last : ℕ) (places : List ℕ) → IsIn place (places ++ last ∷ []) → IsIn place places ⊎ (place ≡ last)
-is_in-either place last [] (inl is) = inr is
-is_in-either place last [] (inr is) = absurd is
+is_in-either place last [] is = grind arith
 is_in-either place last (first ∷ places) (inl is) = inl (inl is)
 is_in-either place last (first ∷ places) (inr is) = elim (is_in-either place last places is) [ inl before ↦ inl (inr before) | inr same ↦ inr same ]

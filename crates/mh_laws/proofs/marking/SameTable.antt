@@ -1,15 +1,8 @@
 -- A collector that turns to other roots, to another place or phase or to another grey list, with its table and its cycle: promises stay.
-use Rattle.std.proofs.Common.{◌≡◌, ℕ, ◌<◌, Bool, true, false, ◌⊎◌, inl, inr, List, [], length, get_or, Option, Some, None, refl}
-use Rattle.std.proofs.lemmas.Bool.{cases_Bool}
-use Rattle.mh_model.specs.declared.cycle.Phase.{Phase}
-use Rattle.mh_model.specs.World.{World}
-use Rattle.mh_model.specs.Paths.{Reachable}
-use Rattle.mh_model.specs.Pages.{block_at}
-use Rattle.mh_model.specs.Table.{Block, resolve}
-use Rattle.mh_model.specs.Collector.{Collector, is_idle}
-use Rattle.mh_model.specs.Mutator.{in_roots_or_mark}
-use Rattle.mh_model.specs.View.{in_sweep}
-use Rattle.mh_model.specs.Snapshot.{IsKept}
+use Rattle.std.proofs.Common.{◌≡◌, ℕ, ◌<◌, Bool, true, false, ◌⊎◌, inl, inr, List, [], length, get_or, Option, Some, None, refl, arith}
+use Rattle.mh_model.specs.{declared.cycle.Phase.Phase, World.World, Paths.Reachable, Pages.block_at}
+use Rattle.mh_model.specs.{Table.{Block, resolve}, Collector.{Collector, is_idle}, Mutator.in_roots_or_mark}
+use Rattle.mh_model.specs.{View.in_sweep, Snapshot.IsKept}
 use Rattle.mh_model.specs.Invariant.{IsIn, IsPlainAt, IsStraight, IsUnflagged, in_trace, in_defrag, IsSound, IsMarkedAt, IsFromRoot, IsFromGrey, IsWhole, KeepsCycle, KeepsSnapshot}
 use Rattle.mh_model.specs.Limits.{root_slots}
 use Rattle.mh_laws.proofs.marking.MarkingPaths.{Keeps, promises_stay}
@@ -34,14 +27,10 @@ module _ (c : Collector) (slots' : List (Option ℕ)) (phase' : Phase) (cursor' 
 
   module _ (turn : IsTurn) where
     plain_forth : (q : ℕ) (x : Block) → IsPlainAt c q x → IsPlainAt turned q x
-    plain_forth q x plain = record { there = plain.there; original = plain.original; surviving = λ s. plain.surviving (turn.enters s) }
+    plain_forth q x plain = grind arith
 
     plain_back : (q : ℕ) (x : Block) → IsPlainAt turned q x → IsPlainAt c q x
-    plain_back q x plain = record {
-      there = plain.there;
-      original = plain.original;
-      surviving = λ s. elim (cases_Bool (in_sweep phase')) [ inl sweeps ↦ plain.surviving sweeps | inr stops ↦ turn.leaves stops s q x plain.there ];
-    }
+    plain_back q x plain = grind arith
 
     pub sound-turned : (n : ℕ) → IsSound n c → IsSound n turned
     sound-turned n h = record {
@@ -96,4 +85,4 @@ module _ (c : Collector) (slots' : List (Option ℕ)) (phase' : Phase) (cursor' 
         whole birth (q, x, plain, is, first, each) = (q, x, plain_forth q x plain, is, first, λ i below. let (r, y, plain', is', part) = each i below in (r, y, plain_forth r y plain', is', part))
 
     pub snapshot-turned : (snapshot : World) (n : ℕ) → IsKeptTurn snapshot n → KeepsSnapshot snapshot n c → KeepsSnapshot snapshot n turned
-    snapshot-turned snapshot n k h = record { sound = sound-turned n h.sound; before = h.before; cycle = cycle-turned snapshot n k h.cycle }
+    snapshot-turned snapshot n k h = grind (arith, sound-turned, cycle-turned)

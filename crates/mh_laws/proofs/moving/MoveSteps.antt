@@ -1,23 +1,18 @@
 -- Steps of defragmentation: a block that moves with all its roots, and the end of the cycle.
 -- A move leaves an equal block, a forwarder in a flagged page, and roots that lead straight.
 -- One hop is enough because a flagged page receives no move.
-use Rattle.std.proofs.Common.{◌≡◌, ◌≢◌, ℕ, zero, suc, ◌<◌, ◌≤◌, true, false, ◌⊎◌, inl, inr, List, [], ◌∷◌, length, get_or, set, Option, Some, None, option_map, option_and_then, unwrap_or, refl, sym, ap, ◌∙◌, subst, arith}
-use Rattle.std.proofs.lemmas.Bool.{cases_eq, false≢true}
-use Rattle.std.proofs.lemmas.Option.{none-some, same_Some}
-use Rattle.std.proofs.lemmas.List.{length-map}
-use Rattle.mh_model.specs.declared.cycle.Phase.TheVariants.{Idle, Defrag}
-use Rattle.mh_model.specs.World.{World, births}
-use Rattle.mh_model.specs.Pages.{Page, Table, page_number, slot_number, page_at, block_in, block_at, page_with, with_block, page_for, with_taken}
+use Rattle.std.proofs.Common.{◌≡◌, ◌≢◌, ℕ, suc, ◌<◌, ◌≤◌, true, false, ◌⊎◌, inl, inr, List, ◌∷◌, length, get_or, Option, Some, None, refl, sym, ap, ◌∙◌, subst, arith}
+use Rattle.std.proofs.{lemmas.Bool.{cases_eq, false≢true}, lemmas.Option.{none-some, same_Some}, lemmas.List.length-map}
+use Rattle.mh_model.specs.{declared.cycle.Phase.TheVariants.{Idle, Defrag}, World.{World, births}}
+use Rattle.mh_model.specs.Pages.{Page, Table, page_number, slot_number, page_at, block_at, with_block, with_taken}
 use Rattle.mh_model.specs.Table.{Block, resolve, target_of}
 use Rattle.mh_model.specs.Collector.{Collector, Move, flagged_page, next_move, moved_table, forwarded_slots, with_phase, with_move, defrag_step, next_place, is_idle, cycle_end}
-use Rattle.mh_model.specs.Mutator.{in_roots_or_mark}
-use Rattle.mh_model.specs.View.{in_sweep}
-use Rattle.mh_model.specs.Snapshot.{IsKept}
-use Rattle.mh_model.specs.Invariant.{IsIn, IsPlainAt, IsPartOf, IsUnflagged, in_defrag, IsSound, KeepsSnapshot, IsFinished}
+use Rattle.mh_model.specs.{Mutator.in_roots_or_mark, View.in_sweep, Snapshot.IsKept}
+use Rattle.mh_model.specs.Invariant.{IsIn, IsPlainAt, IsUnflagged, in_defrag, IsSound, KeepsSnapshot, IsFinished}
 use Rattle.mh_laws.proofs.moving.NextMove.{next_move-is}
-use Rattle.mh_table_laws.proofs.placing.Places.{IsShaped, least_dense_place-page, block_at-with_block_same, block_at-with_block_other, block-slot}
 use Rattle.mh_laws.proofs.marking.BlockChanges.{resolve-live, pages-with_block, live_plain}
 use Rattle.mh_laws.proofs.marking.SameTable.{snapshot-turned}
+use Rattle.mh_table_laws.proofs.placing.Places.{IsShaped, least_dense_place-page, block_at-with_block_same, block_at-with_block_other, block-slot}
 
 -- The move that a step makes ---------------------------------------------------------------------
 
@@ -38,25 +33,12 @@ pub move-is : (table : Table Block) (place : ℕ) → IsShaped table → (move :
 move-is table place shaped move e =
     let is = next_move-is table place move e in
     let (into, to, of_class, unflagged, empty) = least_dense_place-page table move.class_size shaped move.target is.target in
-    record {
-      page = is.page;
-      from = is.in_use;
-      flagged = is.flagged;
-      there = ap (option_and_then (block_in (slot_number place))) is.in_use ∙ is.there;
-      live = is.live;
-      into = into;
-      to = to;
-      unflagged = unflagged;
-      inside = empty.within;
-      free = ap (option_and_then (block_in (slot_number move.target))) to ∙ empty.empty;
-    }
+    grind arith
 
 -- a root forwarded leads to where a root led
 forwarded-root : (table : Table Block) (slots : List (Option ℕ)) (i r : ℕ) → get_or (forwarded_slots table slots) i None ≡ Some r → (s : ℕ) × (get_or slots i None ≡ Some s) × (resolve table s ≡ r)
-forwarded-root table [] i r e = absurd (none-some r e)
-forwarded-root table (None ∷ slots) zero r e = absurd (none-some r e)
-forwarded-root table (Some s ∷ slots) zero r e = (s, refl, same_Some (resolve table s) r e)
 forwarded-root table (o ∷ slots) (suc i) r e = forwarded-root table slots i r e
+forwarded-root table slots i r e = grind (arith, none-some, same_Some)
 
 -- A move -----------------------------------------------------------------------------------------
 
@@ -77,7 +59,7 @@ module _ (snapshot : World) (n : ℕ) (c : Collector) (defrags : c.phase ≡ Def
   moved = record c { table = table'; slots = forwarded_slots table' c.slots; phase = Defrag; cursor = cursor' }
 
   taken : with_taken c.table move.class_size q b ≡ with_block c.table q (Some b)
-  taken = ap (λ o. set c.table (page_number q) (Some (page_with (slot_number q) (Some b) (page_for move.class_size o)))) is.to ∙ sym (ap (λ o. set c.table (page_number q) (option_map (page_with (slot_number q) (Some b)) o)) is.to)
+  taken = grind arith
 
   abbrev forwarder : Block
   forwarder = record b { forward = Some q }
@@ -95,23 +77,20 @@ module _ (snapshot : World) (n : ℕ) (c : Collector) (defrags : c.phase ≡ Def
   at_p = ap (λ t. block_at t p) as_written ∙ block_at-with_block_same (with_block c.table q (Some b)) p (Some forwarder) (block-slot (with_block c.table q (Some b)) p b p_there)
 
   at_q : block_at table' q ≡ Some b
-  at_q = ap (λ t. block_at t q) as_written ∙ block_at-with_block_other (with_block c.table q (Some b)) p q (Some forwarder) (λ e. apart (sym e)) ∙ block_at-with_block_same c.table q (Some b) (record { page = is.into; in_use = is.to; within = is.inside })
+  at_q = grind (arith, as_written, block_at-with_block_other, apart, block_at-with_block_same)
 
   at_other : (x : ℕ) → x ≢ p → x ≢ q → block_at table' x ≡ block_at c.table x
-  at_other x i j = ap (λ t. block_at t x) as_written ∙ block_at-with_block_other (with_block c.table q (Some b)) p x (Some forwarder) i ∙ block_at-with_block_other c.table q x (Some b) j
+  at_other x i j = grind (arith, as_written, block_at-with_block_other)
 
   pages : (number : ℕ) (page : Page Block) → page_at table' number ≡ Some page → (old : Page Block) × (page_at c.table number ≡ Some old) × (length page.slots ≡ length old.slots) × (page.is_flagged ≡ old.is_flagged)
-  pages number page e =
-      let (one, at, size, flag) = pages-with_block (with_block c.table q (Some b)) p (Some forwarder) number page (ap (λ t. page_at t number) (sym as_written) ∙ e) in
-      let (old, at', size', flag') = pages-with_block c.table q (Some b) number one at in
-      (old, at', size ∙ size', flag ∙ flag')
+  pages number page e = grind (arith, pages-with_block, as_written)
 
   -- a place with a block isn't the target, and one in a page that isn't flagged isn't if the block was
   not_q : (x : ℕ) (y : Block) → block_at c.table x ≡ Some y → x ≢ q
   not_q x y e k = none-some y (sym is.free ∙ ap (block_at c.table) (sym k) ∙ e)
 
   not_p : (x : ℕ) → IsUnflagged c.table x → x ≢ p
-  not_p x u e = false≢true (sym (u is.page (ap (λ z. page_at c.table (page_number z)) e ∙ is.from)) ∙ is.flagged)
+  not_p x u e = grind arith
 
   in_it : in_defrag c.phase ≡ true
   in_it = ap in_defrag defrags
@@ -119,31 +98,15 @@ module _ (snapshot : World) (n : ℕ) (c : Collector) (defrags : c.phase ≡ Def
   -- what is led to is the same block as before
   pub follows : (r : ℕ) (y : Block) → block_at c.table (resolve c.table r) ≡ Some y → y.forward ≡ None → block_at table' (resolve table' r) ≡ Some y
   follows r y e live = elim (cases_eq r p) [
-    | inl same ↦
-        let self : resolve c.table r ≡ p = ap (resolve c.table) same ∙ resolve-live c.table p b is.there is.live in
-        let one : b ≡ y = same_Some b y (sym is.there ∙ ap (block_at c.table) (sym self) ∙ e) in
-        let to : resolve table' r ≡ q = ap (resolve table') same ∙ ap (λ o. unwrap_or (option_and_then (λ z. z.forward) o) p) at_p in
-        ap (block_at table') to ∙ at_q ∙ ap Some one
+    | inl same ↦ grind (arith, resolve-live, same_Some, at_p, at_q)
     | inr not_here ↦ elim (cases_eq r q) [
-      | inl same ↦
-          let self : resolve c.table r ≡ q = ap (resolve c.table) same ∙ ap (λ o. unwrap_or (option_and_then (λ z. z.forward) o) q) is.free in
-          absurd (none-some y (sym is.free ∙ ap (block_at c.table) (sym self) ∙ e))
-      | inr not_there ↦
-          let to : resolve table' r ≡ resolve c.table r = ap (λ o. unwrap_or (option_and_then (λ z. z.forward) o) r) (at_other r not_here not_there) in
-          ap (block_at table') to ∙ at_other (resolve c.table r) (end r not_here) (not_q (resolve c.table r) y e) ∙ e
+      | inl same ↦ grind arith
+      | inr not_there ↦ grind (arith, at_other, end, not_q)
     ]
   ]
     where
       end : (r : ℕ) → r ≢ p → resolve c.table r ≢ p
-      end r k = go (block_at c.table r) refl
-        where
-          by_forward : (x : Block) → block_at c.table r ≡ Some x → (o : Option ℕ) → x.forward ≡ o → unwrap_or o r ≢ p
-          by_forward x there None f i = k i
-          by_forward x there (Some z) f i = not_p z (h.sound.dense in_it r z x there f) i
-
-          go : (o : Option Block) → block_at c.table r ≡ o → unwrap_or (option_and_then (λ z. z.forward) o) r ≢ p
-          go None there i = k i
-          go (Some x) there i = by_forward x there x.forward refl i
+      end r k = grind arith
 
   -- if a block is from
   record IsFrom (x : ℕ) (y : Block) : Type 0 where
@@ -165,17 +128,11 @@ module _ (snapshot : World) (n : ℕ) (c : Collector) (defrags : c.phase ≡ Def
   SameBut y old = (y.birth ≡ old.birth) × (y.stamp ≡ old.stamp) × (y.part ≡ old.part) × (y.header ≡ old.header) × (y.references ≡ old.references) × (y.numbers ≡ old.numbers)
 
   same_but : (x : ℕ) (y : Block) (f : IsFrom x y) → SameBut y f.old
-  same_but x y f = elim f.case [
-    | inl k ↦ (ap (λ z. z.birth) k.0, ap (λ z. z.stamp) k.0, ap (λ z. z.part) k.0, ap (λ z. z.header) k.0, ap (λ z. z.references) k.0, ap (λ z. z.numbers) k.0)
-    | inr k ↦ (ap (λ z. z.birth) k.0, ap (λ z. z.stamp) k.0, ap (λ z. z.part) k.0, ap (λ z. z.header) k.0, ap (λ z. z.references) k.0, ap (λ z. z.numbers) k.0)
-  ]
+  same_but x y f = grind arith
 
   -- a block that is no forwarder was one that was none
   pub live_from : (x : ℕ) (y : Block) → block_at table' x ≡ Some y → y.forward ≡ None → (place : ℕ) × (block_at c.table place ≡ Some y) × (((place ≡ x) × (x ≢ p)) ⊎ ((x ≡ q) × (place ≡ p)))
-  live_from x y e live = let f = from x y e in elim f.case [
-    | inl k ↦ (f.place, f.there ∙ ap Some (sym k.0), k.1)
-    | inr k ↦ absurd (none-some q (sym live ∙ ap (λ z. z.forward) k.0))
-  ]
+  live_from x y e live = grind (arith, from x y e)
 
   pub live_forth : (x : ℕ) (y : Block) → block_at c.table x ≡ Some y → y.forward ≡ None → (x' : ℕ) × (block_at table' x' ≡ Some y)
   live_forth x y e live = elim (cases_eq x p) [
@@ -184,7 +141,7 @@ module _ (snapshot : World) (n : ℕ) (c : Collector) (defrags : c.phase ≡ Def
   ]
 
   plain_then : (x : ℕ) (y : Block) → block_at table' x ≡ Some y → y.forward ≡ None → IsPlainAt moved x y
-  plain_then x y e live = record { there = e; original = live; surviving = λ s. absurd (false≢true s) }
+  plain_then x y e live = grind arith
 
   sound-moved : IsSound n moved
   sound-moved = record {
@@ -193,10 +150,7 @@ module _ (snapshot : World) (n : ℕ) (c : Collector) (defrags : c.phase ≡ Def
     births = λ x y e. let f = from x y e in subst (λ z. z < n) (sym (same_but x y f).0) (h.sound.births f.place f.old f.there);
     stamps = λ x y e. let f = from x y e in subst (λ z. z ≤ c.cycle) (sym (same_but x y f).1) (h.sound.stamps f.place f.old f.there);
     shapes = h.sound.shapes;
-    parts = λ x y e. let f = from x y e in elim f.case [
-      | inl k ↦ subst (λ z. IsPartOf (h.sound.shapes z.birth) z) (sym k.0) (h.sound.parts f.place f.old f.there)
-      | inr k ↦ subst (λ z. IsPartOf (h.sound.shapes z.birth) z) (sym k.0) (let part = h.sound.parts f.place f.old f.there in record { part = part.part; is = part.is; header = part.header; references = part.references; numbers = part.numbers })
-    ];
+    parts = λ x y e. let f = from x y e in grind (arith, h.sound.parts f.place f.old f.there);
     one = one;
     slots = λ i r e.
         let (s, f, to) = forwarded-root table' c.slots i r e in
@@ -223,28 +177,10 @@ module _ (snapshot : World) (n : ℕ) (c : Collector) (defrags : c.phase ≡ Def
   }
     where
       one : (x x' : ℕ) (y y' : Block) → block_at table' x ≡ Some y → block_at table' x' ≡ Some y' → y.forward ≡ None → y'.forward ≡ None → y.birth ≡ y'.birth → y.part ≡ y'.part → x ≡ x'
-      one x x' y y' e e' live live' birth part =
-          let (place, there, k) = live_from x y e live in
-          let (place', there', k') = live_from x' y' e' live' in
-          let same : place ≡ place' = h.sound.one place place' y y' there there' live live' birth part in
-          elim k [
-            | inl i ↦ elim k' [
-              | inl j ↦ sym i.0 ∙ same ∙ j.0
-              | inr j ↦ absurd (i.1 (sym i.0 ∙ same ∙ j.1))
-            ]
-            | inr i ↦ elim k' [
-              | inl j ↦ absurd (j.1 (sym j.0 ∙ sym same ∙ i.1))
-              | inr j ↦ i.0 ∙ sym j.0
-            ]
-          ]
+      one x x' y y' e e' live live' birth part = search (arith, live_from)
 
       dense : (x target : ℕ) (y : Block) → block_at table' x ≡ Some y → y.forward ≡ Some target → IsUnflagged c.table target
-      dense x target y e g = let f = from x y e in elim f.case [
-        | inl k ↦ h.sound.dense in_it f.place target f.old f.there (ap (λ z. z.forward) (sym k.0) ∙ g)
-        | inr k ↦
-            let to : q ≡ target = same_Some q target (sym (ap (λ z. z.forward) k.0) ∙ g) in
-            λ page at. ap (λ z. z.is_flagged) (same_Some page is.into (sym at ∙ ap (λ z. page_at c.table (page_number z)) (sym to) ∙ is.to)) ∙ is.unflagged
-      ]
+      dense x target y e g = search (arith, from x y e)
 
   -- A move keeps the snapshot
   pub snapshot-moved : KeepsSnapshot snapshot n moved
@@ -281,7 +217,7 @@ snapshot-defrag_step snapshot n c defrags h = go (next_move c.table c.cursor) re
     cursor' = next_place c.cursor (flagged_page c.table c.cursor)
 
     go : (move : Option Move) → next_move c.table c.cursor ≡ move → KeepsSnapshot snapshot n (with_phase (with_move c move) Defrag (next_place c.cursor (flagged_page c.table c.cursor)))
-    go (Some move) e = snapshot-moved snapshot n c defrags h move (move-is c.table c.cursor h.sound.narrow move e) (next_place c.cursor (flagged_page c.table c.cursor))
+    go (Some move) e = search (arith, snapshot-moved, move-is)
     go None e = snapshot-turned c c.slots Defrag (next_place c.cursor (flagged_page c.table c.cursor)) c.grey c.is_asked c.quanta (record {
       enters = λ s. absurd (false≢true s);
       leaves = λ no s. absurd (false≢true (ap in_sweep (sym defrags) ∙ s));
@@ -294,30 +230,12 @@ snapshot-defrag_step snapshot n c defrags h = go (next_move c.table c.cursor) re
       swept = λ t. absurd (false≢true t);
       marked = λ t. h.sound.marked (ap in_defrag defrags);
       dense = λ t. h.sound.dense (ap in_defrag defrags);
-    }) snapshot n (record {
-      runs = λ r. ap is_idle defrags;
-      marks = λ t. absurd (false≢true t);
-      from_root = λ t. absurd (false≢true t);
-      from_grey = λ t. absurd (false≢true t);
-      slots = λ t. absurd (false≢true t);
-    }) h
+    }) snapshot n (grind arith) h
 
 -- The end of the cycle ---------------------------------------------------------------------------
 
 pub snapshot-cycle_end : (snapshot : World) (n : ℕ) (c : Collector) → c.phase ≡ Defrag → KeepsSnapshot snapshot n c → KeepsSnapshot snapshot n (cycle_end c)
-snapshot-cycle_end snapshot n c defrags h = snapshot-turned c c.slots Idle 0 c.grey c.is_asked 0 (record {
-  enters = λ s. absurd (false≢true s);
-  leaves = λ no s. absurd (false≢true (ap in_sweep (sym defrags) ∙ s));
-  roots = h.sound.roots;
-  slots = h.sound.slots;
-  listed = λ q is. is;
-  quiet = λ no. h.sound.quiet (ap in_roots_or_mark defrags);
-  traces = λ t. absurd (false≢true t);
-  left = λ t. absurd (false≢true t);
-  swept = λ t. absurd (false≢true t);
-  marked = λ t. absurd (false≢true t);
-  dense = λ t. absurd (false≢true t);
-}) snapshot n (record {
+snapshot-cycle_end snapshot n c defrags h = snapshot-turned c c.slots Idle 0 c.grey c.is_asked 0 (grind arith) snapshot n (record {
   runs = λ r. absurd (false≢true (sym r));
   marks = λ t. absurd (false≢true t);
   from_root = λ t. absurd (false≢true t);
@@ -336,4 +254,4 @@ finished-cycle_end snapshot n c defrags h = record {
 }
   where
     plain_then : (x : ℕ) (y : Block) → IsPlainAt c x y → IsPlainAt (cycle_end c) x y
-    plain_then x y plain = record { there = plain.there; original = plain.original; surviving = λ s. absurd (false≢true s) }
+    plain_then x y plain = grind arith

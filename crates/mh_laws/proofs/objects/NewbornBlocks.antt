@@ -1,15 +1,13 @@
 -- The blocks of an object as it is born: its parts in order, at places that had none, and the references of each part to its children.
-use Rattle.std.proofs.Common.{◌≡◌, ℕ, zero, suc, ◌+◌, ◌<◌, ◌≤◌, false, ◌⊎◌, List, [], ◌∷◌, length, get_or, map, take, drop, set, replicate, slice_get, Option, Some, None, option_map, option_and_then, refl, sym, ap, ◌∙◌, subst, arith}
+use Rattle.std.proofs.Common.{◌≡◌, ℕ, suc, ◌+◌, ◌<◌, ◌≤◌, false, ◌⊎◌, List, [], ◌∷◌, length, get_or, map, take, drop, set, replicate, slice_get, Option, Some, None, option_map, option_and_then, refl, sym, ap, ◌∙◌, subst, arith}
 use Rattle.std.proofs.lemmas.Option.{none-some, same_Some, slice_get_within}
 use Rattle.std.proofs.lemmas.List.{length-take, length-drop, length-replicate}
-use Rattle.mh_model.specs.declared.shape.Shape.{Shape}
-use Rattle.mh_model.specs.Classes.{Part, parts, class_of, part_words}
+use Rattle.mh_model.specs.{declared.shape.Shape.Shape, Classes.{Part, parts, class_of, part_words}}
 use Rattle.mh_model.specs.Pages.{Page, Table, page_number, slot_number, page_at, block_at, least_place, page_with, page_for, with_taken}
 use Rattle.mh_model.specs.Table.{Block, Made, MadeParts, new_block, made_in_class, made_parts, with_block_change, words_of, linked_block, linked_parts, group_of, made_group}
 use Rattle.mh_model.specs.Invariant.{IsPartOf, first_child}
 use Rattle.mh_table_laws.specs.NewObjects.{IsGroup}
-use Rattle.mh_table_laws.proofs.placing.Places.{IsShaped}
-use Rattle.mh_table_laws.proofs.objects.Parts.{slice_there, child_is, children_inside}
+use Rattle.mh_table_laws.proofs.{placing.Places.IsShaped, objects.Parts.{slice_there, child_is, children_inside}}
 use Rattle.mh_table_laws.proofs.objects.MadeGroups.{length-words_of, made_parts-shaped, made_group-is}
 use Rattle.mh_laws.proofs.marking.BlockChanges.{pages-with_block}
 
@@ -23,15 +21,11 @@ flags-with_taken : (table : Table Block) (size place : ℕ) (block : Block) → 
 flags-with_taken table size place block number unflagged page e = go table (page_number place) number unflagged e
   where
     here : (content : Option (Page Block)) → ((p : Page Block) → content ≡ Some p → p.is_flagged ≡ false) → Some (page_with (slot_number place) (Some block) (page_for size content)) ≡ Some page → page.is_flagged ≡ false
-    here None u h = ap (λ (p : Page Block). p.is_flagged) (sym (same_Some (page_with (slot_number place) (Some block) (page_for size None)) page h))
-    here (Some p) u h = ap (λ (p : Page Block). p.is_flagged) (sym (same_Some (page_with (slot_number place) (Some block) p) page h)) ∙ u p refl
+    here content u h = grind (arith, same_Some)
 
     go : (pages : Table Block) (k m : ℕ) → ((p : Page Block) → page_at pages m ≡ Some p → p.is_flagged ≡ false) → page_at (set pages k (Some (page_with (slot_number place) (Some block) (page_for size (page_at pages k))))) m ≡ Some page → page.is_flagged ≡ false
-    go [] k m u h = absurd (none-some page h)
-    go (x ∷ pages) zero zero u h = here x u h
-    go (x ∷ pages) zero (suc m) u h = u page h
-    go (x ∷ pages) (suc k) zero u h = u page h
     go (x ∷ pages) (suc k) (suc m) u h = go pages k m u h
+    go pages k m u h = grind (arith, none-some, here)
 
 flags-made_parts : (after_parts : List Part) (table : Table Block) (birth stamp index : ℕ) (made : MadeParts) → made_parts table birth stamp index after_parts ≡ Some made → FlagsNone table made.table
 flags-made_parts [] table birth stamp index made e = subst (λ m. FlagsNone table m.table) (same_Some (record { places = []; table = table }) made e) (λ number u. u)
@@ -46,8 +40,7 @@ flags-made_parts (part ∷ more) table birth stamp index made e = by_class (clas
 
     by_place : (size : ℕ) (place : Option ℕ) → ((t : Table Block) (m : MadeParts) → made_parts t birth stamp (suc index) more ≡ Some m → FlagsNone t m.table) → option_and_then (λ (first : Made). option_map (λ (r : MadeParts). record { places = first.place ∷ r.places; table = r.table }) (made_parts first.table birth stamp (suc index) more))
         (option_map (λ p. record { place = p; table = with_taken table size p block }) place) ≡ Some made → FlagsNone table made.table
-    by_place size None ih h = absurd (none-some made h)
-    by_place size (Some p) ih h = by_rest (record { place = p; table = with_taken table size p block }) (made_parts (with_taken table size p block) birth stamp (suc index) more) (λ m k. ih (with_taken table size p block) m k) (flags-with_taken table size p block) h
+    by_place size place ih h = search (arith, none-some, by_rest, block, flags-with_taken)
 
     by_class : (size : Option ℕ) → ((t : Table Block) (m : MadeParts) → made_parts t birth stamp (suc index) more ≡ Some m → FlagsNone t m.table) → option_and_then (λ (first : Made). option_map (λ (r : MadeParts). record { places = first.place ∷ r.places; table = r.table }) (made_parts first.table birth stamp (suc index) more))
         (option_and_then (made_in_class table block) size) ≡ Some made → FlagsNone table made.table
@@ -80,36 +73,29 @@ pub record IsObjectBorn (table : Table Block) (birth stamp : ℕ) (shape : Shape
   pub flags : FlagsNone table made.table
 
 no_word : (count i r : ℕ) → get_or {A = Option ℕ} (replicate count None) i None ≡ Some r → ⊥
-no_word zero i r e = none-some r e
-no_word (suc count) zero r e = none-some r e
 no_word (suc count) (suc i) r e = no_word count i r e
+no_word count i r e = none-some r e
 
 spine_word : (xs : List ℕ) (i r : ℕ) → get_or (map Some xs) i None ≡ Some r → slice_get xs i ≡ Some r
-spine_word [] i r e = absurd (none-some r e)
-spine_word (x ∷ xs) zero r e = e
 spine_word (x ∷ xs) (suc i) r e = spine_word xs i r e
+spine_word xs i r e = grind (arith, none-some)
 
 word_there : (xs : List ℕ) (i r : ℕ) → slice_get xs i ≡ Some r → get_or (map {A = ℕ} {B = Option ℕ} Some xs) i None ≡ Some r
-word_there [] i r e = absurd (none-some r e)
-word_there (x ∷ xs) zero r e = e
 word_there (x ∷ xs) (suc i) r e = word_there xs i r e
+word_there xs i r e = grind (arith, none-some)
 
 -- an element of some that are taken is one of the list
 taken : (count i r : ℕ) (xs : List ℕ) → slice_get (take count xs) i ≡ Some r → slice_get xs i ≡ Some r
-taken zero i r xs e = absurd (none-some r e)
-taken (suc count) i r [] e = absurd (none-some r e)
-taken (suc count) zero r (x ∷ xs) e = e
 taken (suc count) (suc i) r (x ∷ xs) e = taken count i r xs e
+taken count i r xs e = grind (arith, none-some)
 
 dropped : (first i : ℕ) (xs : List ℕ) → slice_get (drop first xs) i ≡ slice_get xs (first + i)
-dropped zero i xs = let k : 0 + i ≡ i = omega arith in ap (slice_get xs) (sym k)
-dropped (suc first) i [] = refl
 dropped (suc first) i (x ∷ xs) = let k : suc first + i ≡ suc (first + i) = omega arith in dropped first i xs ∙ ap (slice_get (x ∷ xs)) (sym k)
+dropped first i xs = grind arith
 
 -- what the references of a part are
 words-of_part : (places : List ℕ) (count : ℕ) (children : Option ℕ) (i r : ℕ) → get_or (words_of places count children) i None ≡ Some r → (child : ℕ) × (children ≡ Some child) × (slice_get places (child + i) ≡ Some r)
-words-of_part places count None i r e = absurd (no_word count i r e)
-words-of_part places count (Some child) i r e = (child, refl, sym (dropped child i places) ∙ taken count i r (drop child places) (spine_word (take count (drop child places)) i r e))
+words-of_part places count children i r e = grind (arith, no_word, dropped, taken, spine_word)
 
 spine-of_part : (places : List ℕ) (count child i : ℕ) → i < count → child + count ≤ length places → (r : ℕ) × (get_or (words_of places count (Some child)) i None ≡ Some r) × (slice_get places (child + i) ≡ Some r)
 spine-of_part places count child i below inside =
@@ -160,16 +146,14 @@ module _ (table : Table Block) (birth stamp : ℕ) (shape : Shape) (made : Made)
 
 -- references change neither slots nor flags
 linked-shaped : (all places : List ℕ) (list : List Part) (table : Table Block) → IsShaped table → IsShaped (linked_parts all table places list)
-linked-shaped all [] list table narrow = narrow
-linked-shaped all (place ∷ places) [] table narrow = narrow
 linked-shaped all (place ∷ places) (part ∷ list) table narrow =
     linked-shaped all places list (with_block_change table place (linked_block all part)) (λ number page e. let (old, at, size, flag) = pages-with_block table place _ number page e in let few = narrow number old at in omega (arith, size, few))
+linked-shaped all places list table narrow = narrow
 
 linked-flags : (all places : List ℕ) (list : List Part) (table : Table Block) → FlagsNone table (linked_parts all table places list)
-linked-flags all [] list table number u = u
-linked-flags all (place ∷ places) [] table number u = u
 linked-flags all (place ∷ places) (part ∷ list) table number u =
     linked-flags all places list (with_block_change table place (linked_block all part)) number (λ page e. let (old, at, size, flag) = pages-with_block table place _ number page e in flag ∙ u old at)
+linked-flags all places list table number u = u
 
 -- A new group is an object born
 pub made_group-born : (table : Table Block) (birth stamp : ℕ) (shape : Shape) → IsShaped table → (made : Made) → made_group table birth stamp (parts shape.references shape.numbers) ≡ Some made → IsObjectBorn table birth stamp shape made

@@ -1,11 +1,10 @@
 -- The first of parts that are made, whose place leaves each page the slots of its class.
-use Rattle.std.proofs.Common.{◌≡◌, inl, inr, ℕ, suc, true, Option, Some, None, option_map, option_and_then, List, ◌∷◌, refl, ap, subst}
+use Rattle.std.proofs.Common.{◌≡◌, inl, inr, ℕ, suc, true, Option, Some, None, option_map, option_and_then, List, ◌∷◌, refl, ap, subst, arith}
 use Rattle.std.proofs.lemmas.Option.{none-some, same_Some}
 use Rattle.mh_model.specs.Classes.{Part, class_of, part_words, is_class_size}
 use Rattle.mh_model.specs.Pages.{Page, Table, page_number, slot_number, page_at, least_place, page_for, with_taken, HasItsSlots, HaveTheirSlots}
 use Rattle.mh_model.specs.Table.{Block, Made, MadeParts, new_block, made_in_class, made_parts}
-use Rattle.mh_table_laws.proofs.Lists.{get_or-set_either}
-use Rattle.mh_table_laws.proofs.tables.PageSlots.{page_with-slots, page_for-slots}
+use Rattle.mh_table_laws.proofs.{Lists.get_or-set_either, tables.PageSlots.{page_with-slots, page_for-slots}}
 
 -- the first of parts that are made, and those after it
 pub record IsFirst (table : Table Block) (birth stamp index : ℕ) (part : Part) (after : List Part) (made : MadeParts) : Type 0 where
@@ -33,12 +32,10 @@ first-made table birth stamp index part after made e = by_class (class_of (part_
     by_rest size class place least (Some rest) is h = record { size = size; class = class; place = place; least = least; rest = rest; rest_is = is; table_is = ap (λ (m : MadeParts). m.table) (same_Some (record { places = place ∷ rest.places; table = rest.table }) made h) }
 
     by_place : (size : ℕ) → class_of (part_words part) ≡ Some size → (place : Option ℕ) → least_place table size ≡ place → option_and_then rest_of (option_map (λ p. record { place = p; table = with_taken table size p block }) place) ≡ Some made → IsFirst table birth stamp index part after made
-    by_place size class None is h = absurd (none-some made h)
-    by_place size class (Some place) is h = by_rest size class place is (made_parts (with_taken table size place block) birth stamp (suc index) after) refl h
+    by_place size class place is h = search (arith, none-some, by_rest, block)
 
     by_class : (size : Option ℕ) → class_of (part_words part) ≡ size → option_and_then rest_of (option_and_then (made_in_class table block) size) ≡ Some made → IsFirst table birth stamp index part after made
-    by_class None is h = absurd (none-some made h)
-    by_class (Some size) is h = by_place size is (least_place table size) refl h
+    by_class size is h = search (arith, none-some, by_place)
 
 -- a place that is taken leaves each page the slots of its class
 pub taken-slots : {X : Type 0} (table : Table X) (size place : ℕ) (block : X) → is_class_size size ≡ true → HaveTheirSlots table → HaveTheirSlots (with_taken table size place block)

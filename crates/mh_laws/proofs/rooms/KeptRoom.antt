@@ -1,10 +1,7 @@
 -- What leaves free pages and room as they are: barriers, marking, and each command but a new object.
-use Rattle.std.proofs.Common.{◌≡◌, ℕ, Bool, true, false, Option, Some, None, is_some, option_map, List, [], ◌∷◌, refl, sym, ap, ◌∙◌}
+use Rattle.std.proofs.Common.{◌≡◌, ℕ, Bool, true, false, Option, Some, is_some, option_map, List, ◌∷◌, sym, ap, ◌∙◌, arith}
 use Rattle.std.proofs.lemmas.Bool.{false≢true}
-use Rattle.mh_model.specs.declared.command.Command.{Command}
-use Rattle.mh_model.specs.declared.command.Command.TheVariants as command
-use Rattle.mh_model.specs.Classes.{Part}
-use Rattle.mh_model.specs.Pages.{Table, block_at}
+use Rattle.mh_model.specs.{declared.command.Command.Command, Classes.Part, Pages.{Table, block_at}}
 use Rattle.mh_model.specs.Table.{Block, with_block_change, linked_block, linked_parts}
 use Rattle.mh_model.specs.Collector.{Collector, Marking, mark_first, marking_of, with_shade}
 use Rattle.mh_model.specs.Mutator.{HeapState, with_root, heap_effect}
@@ -14,18 +11,16 @@ use Rattle.mh_laws.proofs.rooms.Rooms.{HasSameRoom, same_room, same_room-then, s
 -- Blocks changed ---------------------------------------------------------------------------------
 
 still_some : (content : Option Block) (change : Block → Block) → is_some (option_map change content) ≡ is_some content
-still_some None change = refl
-still_some (Some block) change = refl
+still_some content change = grind arith
 
 pub change-room : (table : Table Block) (place : ℕ) (change : Block → Block) → HasSameRoom table (with_block_change table place change)
 change-room table place change = same_room-with_block table place (option_map change (block_at table place)) (still_some (block_at table place) change)
 
 pub linked_parts-room : (all places : List ℕ) (parts : List Part) (table : Table Block) → HasSameRoom table (linked_parts all table places parts)
-linked_parts-room all [] parts table = same_room table
-linked_parts-room all (place ∷ places) [] table = same_room table
 linked_parts-room all (place ∷ places) (part ∷ parts) table =
     let next : Table Block = with_block_change table place (linked_block all part) in
     same_room-then table next (linked_parts all next places parts) (change-room table place (linked_block all part)) (linked_parts-room all places parts next)
+linked_parts-room all places parts table = same_room table
 
 room : IsKeptByWrites HasSameRoom
 room = record {
@@ -51,11 +46,11 @@ with_root-room collector slot reference = with_root-each _ (over_tables HasSameR
 
 -- a command makes no object
 abbrev pub makes_none : Command → Bool
-makes_none (command.New slot references numbers) = false
+makes_none (Command.New slot references numbers) = false
 makes_none _ = true
 
 -- such a command is no new object
-pub makes_none-new : (c : Command) (slot references numbers : ℕ) → makes_none c ≡ true → c ≡ command.New slot references numbers → ⊥
+pub makes_none-new : (c : Command) (slot references numbers : ℕ) → makes_none c ≡ true → c ≡ Command.New slot references numbers → ⊥
 makes_none-new c slot references numbers none is = false≢true (sym (ap makes_none is) ∙ none)
 
 -- Each other command leaves free pages and room

@@ -1,22 +1,16 @@
 -- What a quantum does: it takes no free page, and starts no cycle, ends one, or counts one more.
-use Rattle.std.proofs.Common.{◌≡◌, ◌⊎◌, inl, inr, ℕ, zero, suc, ◌+◌, ◌-◌, ◌<◌, ◌≤◌, nat_le, nat_lt, Bool, true, false, ◌||◌, ◌&&◌, Option, Some, None, option_map, option_and_then, [], ◌∷◌, set, get_or, refl, sym, ap, ◌∙◌, subst, arith}
-use Rattle.std.proofs.lemmas.Bool.{cases_Bool, or_parts, leb-false, true≢false}
-use Rattle.std.proofs.lemmas.List.{set-get_or}
-use Rattle.mh_model.specs.declared.config.Config.{Config}
-use Rattle.mh_model.specs.declared.cycle.Phase.{Phase}
-use Rattle.mh_model.specs.declared.cycle.Phase.TheVariants.{Idle, Roots, Mark, Sweep, Defrag}
-use Rattle.mh_model.specs.Pages.{Page, Table, page_number, slot_number, page_at, free_pages, page_with, with_block, with_taken, HaveTheirSlots}
+use Rattle.std.proofs.Common.{◌≡◌, ◌⊎◌, inl, inr, ℕ, zero, suc, ◌+◌, ◌-◌, ◌<◌, ◌≤◌, nat_le, nat_lt, Bool, true, false, ◌||◌, Option, Some, None, option_map, ◌∷◌, set, refl, sym, ap, ◌∙◌, subst, arith}
+use Rattle.std.proofs.{lemmas.Bool.{cases_Bool, or_parts, leb-false, true≢false}, lemmas.List.set-get_or}
+use Rattle.mh_model.specs.{declared.config.Config.Config, declared.cycle.Phase.Phase}
+use Rattle.mh_model.specs.Pages.{Table, page_number, slot_number, page_at, free_pages, page_with, with_block, with_taken, HaveTheirSlots}
 use Rattle.mh_model.specs.Table.{Block}
-use Rattle.mh_model.specs.Collector.{Collector, marking_of, swept_page, swept_table, Move, next_move, with_move, step_in, phase_after, collector_step, step_cost, is_moving, is_idle, cycle_start, steps, quantum}
+use Rattle.mh_model.specs.Collector.{Collector, swept_table, Move, next_move, with_move, step_in, collector_step, step_cost, is_moving, is_idle, cycle_start, steps, quantum}
 use Rattle.mh_model.specs.CycleBounds.{IsInBounds}
-use Rattle.mh_table_laws.proofs.Lists.{below_length}
-use Rattle.mh_table_laws.proofs.placing.Places.{shaped-slots, least_dense_place-page}
+use Rattle.mh_table_laws.proofs.{Lists.below_length, placing.Places.{shaped-slots, least_dense_place-page}}
 use Rattle.mh_laws.proofs.bounds.CycleBounds.{steps-count}
 use Rattle.mh_laws.proofs.commands.LeftUnchanged.{collector_step-keeps, table-phase_after}
-use Rattle.mh_laws.proofs.costs.Quanta.{steps-stop, steps-go}
-use Rattle.mh_laws.proofs.costs.QuantumStarts.{begins, quantum-rests}
-use Rattle.mh_laws.proofs.moving.NextMove.{next_move-is}
-use Rattle.mh_laws.proofs.rooms.Rooms.{if_free, free_pages-set, taken-in_use}
+use Rattle.mh_laws.proofs.{costs.Quanta.{steps-stop, steps-go}, costs.QuantumStarts.{begins, quantum-rests}}
+use Rattle.mh_laws.proofs.{moving.NextMove.next_move-is, rooms.Rooms.{if_free, free_pages-set, taken-in_use}}
 use Rattle.mh_laws.proofs.rooms.KeptRoom.{with_shade-room, mark_first-room}
 
 -- Free pages -------------------------------------------------------------------------------------
@@ -25,22 +19,13 @@ free-with_block : (table : Table Block) (place : ℕ) (content : Option Block) �
 free-with_block table place content = go table (page_number place)
   where
     go : (pages : Table Block) (number : ℕ) → free_pages (set pages number (option_map (page_with (slot_number place) content) (page_at pages number))) ≡ free_pages pages
-    go [] number = refl
-    go (None ∷ pages) zero = refl
-    go (Some page ∷ pages) zero = refl
     go (None ∷ pages) (suc number) = ap suc (go pages number)
     go (Some page ∷ pages) (suc number) = go pages number
+    go pages number = refl
 
 -- the sweep takes no free page
 free-swept : (cycle : ℕ) (table : Table Block) (place : ℕ) → free_pages table ≤ free_pages (swept_table cycle table place)
-free-swept cycle table place = go (page_at table (page_number place)) refl
-  where
-    number : ℕ
-    number = page_number place
-
-    go : (old : Option (Page Block)) → page_at table number ≡ old → free_pages table ≤ free_pages (set table number (option_and_then (swept_page cycle table place) old))
-    go None at = omega (arith, ap free_pages (ap (set table number) (sym at) ∙ set-get_or table number None))
-    go (Some page) at = omega (arith, free_pages-set table number (swept_page cycle table place page) (below_length table number page at), ap if_free at)
+free-swept cycle table place = grind (arith, set-get_or, free_pages-set, below_length, if_free)
 
 -- nor does a move, which goes into a page in use
 free-move : (collector : Collector) → HaveTheirSlots collector.table → (move : Option Move) → next_move collector.table collector.cursor ≡ move → free_pages (with_move collector move).table ≡ free_pages collector.table
@@ -51,11 +36,7 @@ free-move collector slots (Some move) is =
     free-with_block taken collector.cursor (Some (record (move.block) { forward = Some move.target })) ∙ (taken-in_use collector.table move.class_size move.target move.block page at of_class).free
 
 free-step_in : (phase : Phase) (collector : Collector) → HaveTheirSlots collector.table → free_pages collector.table ≤ free_pages (step_in phase collector).table
-free-step_in Idle collector slots = omega arith
-free-step_in Roots collector slots = omega (arith, (with_shade-room collector (get_or collector.slots collector.cursor None)).free)
-free-step_in Mark collector slots = omega (arith, (mark_first-room (marking_of collector) collector.grey).free)
-free-step_in Sweep collector slots = free-swept collector.cycle collector.table collector.cursor
-free-step_in Defrag collector slots = omega (arith, free-move collector slots (next_move collector.table collector.cursor) refl)
+free-step_in phase collector slots = grind (arith, with_shade-room, mark_first-room, free-swept, free-move)
 
 free-step : (collector : Collector) → HaveTheirSlots collector.table → free_pages collector.table ≤ free_pages (collector_step collector).table
 unfolding collector_step
@@ -87,10 +68,7 @@ started-after config old new slots table runs quanta cycle =
     let (count, back) = steps-count config.quantum config.quantum false new (λ idle. absurd (true≢false (sym idle ∙ runs))) in
     record {
       free = omega (arith, ap free_pages table, free-steps config.quantum config.quantum false new (subst HaveTheirSlots (sym table) slots));
-      case = elim (cases_Bool (is_idle after.phase)) [
-        | inl idle ↦ inr (inl (idle, elim cycle [ inl ran ↦ inl ran | inr more ↦ inr (omega (arith, count.cycle)) ]))
-        | inr still ↦ inr (inr (still, count.running still ∙ quanta))
-      ];
+      case = grind (arith, cases_Bool);
     }
 
 not-due : (asked low : Bool) → (asked || low) ≡ false → low ≡ false
@@ -103,9 +81,6 @@ quantum-after config old bounds slots = elim (begins config old).case [
       (started-after config old (record (cycle_start old) { quanta = 1 }) slots refl refl (omega (arith, bounds.idle (ap is_idle idle))) (inr (omega arith)))
   | inr other ↦ elim other [
     | inl (runs, starts) ↦ subst (λ c. IsAfter config old (steps config.quantum config.quantum false c).collector) (sym starts) (started-after config old (record old { quanta = old.quanta + 1 }) slots refl runs refl (inl runs))
-    | inr (rests, idle, starts) ↦
-        let none : is_idle old.phase ≡ true = ap is_idle idle in
-        let low : nat_le (free_pages old.table) config.trigger ≡ false = not-due old.is_asked (nat_le (free_pages old.table) config.trigger) (sym (ap (λ b. b && (old.is_asked || nat_le (free_pages old.table) config.trigger)) none) ∙ rests) in
-        subst (IsAfter config old) (sym (quantum-rests config old none rests)) (record { free = omega arith; case = inl (leb-false (free_pages old.table) config.trigger low, none, bounds.idle none) })
+    | inr (rests, idle, starts) ↦ grind (arith, nat_le, not-due, quantum-rests, leb-false)
   ]
 ]

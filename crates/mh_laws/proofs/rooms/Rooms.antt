@@ -1,21 +1,19 @@
 -- Free pages, and the room that unflagged pages of a class have: what one place taken and one block changed do to them.
 -- A place taken in a page in use opens no page. One taken in a free page opens it, with room for all but one of its slots.
-use Rattle.std.proofs.Common.{◌≡◌, ◌≢◌, ℕ, zero, suc, ◌+◌, ◌==◌, ◌<◌, ◌≤◌, ◌&&◌, not, Bool, true, false, if◌then◌else◌, Option, Some, None, is_some, option_map, option_and_then, unwrap_or, inl, inr, List, [], ◌∷◌, length, get_or, set, replicate, refl, sym, ap, ◌∙◌, subst, arith, eq-eqb}
-use Rattle.std.specs.List.{sum_by}
-use Rattle.std.proofs.lemmas.Bool.{cases_eq, eqb-true, false≢true, true≢false}
-use Rattle.std.proofs.lemmas.Option.{none-some, same_Some}
+use Rattle.std.proofs.Common.{◌≡◌, ◌≢◌, ℕ, zero, suc, ◌+◌, ◌<◌, ◌≤◌, ◌&&◌, Bool, true, false, if◌then◌else◌, Option, Some, None, is_some, option_map, option_and_then, unwrap_or, inl, inr, List, [], ◌∷◌, length, get_or, set, replicate, refl, sym, ap, ◌∙◌, subst, arith, eq-eqb}
+use Rattle.std.proofs.{lemmas.Bool.{cases_eq, eqb-true, false≢true, true≢false}, lemmas.Option.{none-some, same_Some}}
 use Rattle.std.proofs.lemmas.List.{set-get_or, get_or-set_same, get_or-set_other, length-set}
 use Rattle.std.proofs.lemmas.List.Sums.{sum_by-cons, sum_by-set}
+use Rattle.std.specs.List.{sum_by}
 use Rattle.mh_model.specs.Classes.{slots_in}
 use Rattle.mh_model.specs.Pages.{Page, Table, page_number, slot_number, page_at, block_in, block_at, flag_at, free_pages, is_dense, empty_slot, open_slot, page_with, with_block, page_for, with_taken}
-use Rattle.mh_table_laws.specs.Placing.{GivesNone}
 use Rattle.mh_model.specs.Openings.{LeavesFlagged}
+use Rattle.mh_table_laws.specs.Placing.{GivesNone}
 use Rattle.mh_table_laws.proofs.Lists.{below_length, get_or-set_either}
 use Rattle.mh_table_laws.proofs.placing.Places.{with_block-self, block_at-with_block_other, block_at-with_taken_other}
 
 if-room : (dense : Bool) (old new : ℕ) → old ≤ new + 1 → (if dense then old else 0) ≤ (if dense then new else 0) + 1
-if-room true old new few = few
-if-room false old new few = omega arith
+if-room dense old new few = grind arith
 
 module _ {X : Type 0} where
   -- how many of these slots have no block
@@ -41,30 +39,20 @@ module _ {X : Type 0} where
 
   -- one block takes one slot at most
   empties-set : (slots : List (Option X)) (slot : ℕ) (block : X) → empties slots ≤ empties (set slots slot (Some block)) + 1
-  empties-set [] slot block = omega arith
-  empties-set (None ∷ slots) zero block = omega arith
-  empties-set (Some other ∷ slots) zero block = omega arith
   empties-set (None ∷ slots) (suc slot) block = omega (arith, empties-set slots slot block)
   empties-set (Some other ∷ slots) (suc slot) block = empties-set slots slot block
+  empties-set slots slot block = omega arith
 
   -- a block exchanged for another takes none
   empties-same : (slots : List (Option X)) (slot : ℕ) (content : Option X) → is_some content ≡ is_some (get_or slots slot None) → empties (set slots slot content) ≡ empties slots
-  empties-same [] slot content same = refl
-  empties-same (None ∷ slots) zero None same = refl
-  empties-same (None ∷ slots) zero (Some block) same = absurd (false≢true (sym same))
-  empties-same (Some other ∷ slots) zero None same = absurd (false≢true same)
-  empties-same (Some other ∷ slots) zero (Some block) same = refl
   empties-same (None ∷ slots) (suc slot) content same = ap suc (empties-same slots slot content same)
   empties-same (Some other ∷ slots) (suc slot) content same = empties-same slots slot content same
+  empties-same slots slot content same = grind (arith, false≢true)
 
   empties-none : (slots : List (Option X)) → empty_slot slots ≡ None → empties slots ≡ 0
   empties-none [] none = refl
   empties-none (None ∷ slots) none = absurd (none-some 0 (sym none))
-  empties-none (Some block ∷ slots) none = go (empty_slot slots) none (empties-none slots)
-    where
-      go : (rest : Option ℕ) → option_map suc rest ≡ None → (rest ≡ None → empties slots ≡ 0) → empties slots ≡ 0
-      go None e after = after refl
-      go (Some slot) e after = absurd (none-some (suc slot) (sym e))
+  empties-none (Some block ∷ slots) none = grind (arith, none-some, empties-none slots)
 
   -- Pages ----------------------------------------------------------------------------------------
 
@@ -73,22 +61,13 @@ module _ {X : Type 0} where
 
   -- a page has no room for another class
   room-other : (size : ℕ) (page : Page X) → page.class_size ≢ size → room_in size (Some page) ≡ 0
-  room-other size page other = go (page.class_size == size) refl
-    where
-      go : (same : Bool) → (page.class_size == size) ≡ same → (if same && not page.is_flagged then empties page.slots else 0) ≡ 0
-      go true is = absurd (other (eqb-true page.class_size size is))
-      go false is = refl
+  room-other size page other = grind (arith, eqb-true)
 
   room-same : (size slot : ℕ) (content : Option X) (page : Page X) → is_some content ≡ is_some (block_in slot page) → room_in size (Some (page_with slot content page)) ≡ room_in size (Some page)
   room-same size slot content page same = ap (λ n. if is_dense size page then n else 0) (empties-same page.slots slot content same)
 
   room-none : (size : ℕ) (content : Option (Page X)) → open_slot (is_dense size) content ≡ None → room_in size content ≡ 0
-  room-none size None none = refl
-  room-none size (Some page) none = go (is_dense size page) none
-    where
-      go : (dense : Bool) → (if dense then empty_slot page.slots else None) ≡ None → (if dense then empties page.slots else 0) ≡ 0
-      go true e = empties-none page.slots e
-      go false e = refl
+  room-none size content none = grind (arith, empties-none)
 
 -- a page that was free has the slots of its class
 module _ (X : Type 0) where
@@ -196,43 +175,22 @@ module _ {X : Type 0} where
   no_fuller-same page = record { class = refl; slots = refl; empty = λ slot none. none }
 
   pub alone-same : (table : Table X) → LeavesAlone table table
-  alone-same table = record {
-    flagged = record { flags = λ number flag. flag; empty = λ place flag none. none };
-    only = λ number page at flag. record { before = page; in_use = at; flag = flag; fuller = no_fuller-same page };
-  }
+  alone-same table = grind (arith, no_fuller-same)
 
   pub alone-then : (first second third : Table X) → LeavesAlone first second → LeavesAlone second third → LeavesAlone first third
   alone-then first second third one two = record {
-    flagged = record {
-      flags = λ number flag. two.flagged.flags number (one.flagged.flags number flag);
-      empty = λ place flag none. two.flagged.empty place (one.flagged.flags (page_number place) flag) (one.flagged.empty place flag none);
-    };
+    flagged = grind arith;
     only = λ number page at flag.
         let later = two.only number page at flag in
         let earlier = one.only number later.before later.in_use later.flag in
-        record {
-          before = earlier.before;
-          in_use = earlier.in_use;
-          flag = earlier.flag;
-          fuller = record {
-            class = later.fuller.class ∙ earlier.fuller.class;
-            slots = later.fuller.slots ∙ earlier.fuller.slots;
-            empty = λ slot none. later.fuller.empty slot (earlier.fuller.empty slot none);
-          };
-        };
+        grind arith;
   }
 
   -- a place that is taken in a page that isn't flagged
   pub alone-taken : (table : Table X) (size place : ℕ) (block : X) → flag_at table (page_number place) ≡ false → LeavesAlone table (with_taken table size place block)
   alone-taken table size place block unflagged = record {
-    flagged = record {
-      flags = λ number flag. ap flag_of (get_or-set_other table (page_number place) number _ None (apart number flag)) ∙ flag;
-      empty = λ other flag none. block_at-with_taken_other table size place other block (λ same. apart (page_number other) flag (ap page_number same)) ∙ none;
-    };
-    only = λ number page at flag. elim (get_or-set_either table (page_number place) number _ None (Some page) at) [
-      | inl written ↦ absurd (true≢false (sym (ap is_flagged_page (same_Some _ page written) ∙ flag) ∙ taken_flag (page_at table (page_number place)) unflagged))
-      | inr before ↦ record { before = page; in_use = before; flag = flag; fuller = no_fuller-same page }
-    ];
+    flagged = grind (arith, flag_of, get_or-set_other, apart, block_at-with_taken_other);
+    only = λ number page at flag. grind (arith, get_or-set_either, true≢false, is_flagged_page, same_Some, taken_flag, no_fuller-same);
   }
     where
       flag_of : Option (Page X) → Bool
@@ -242,8 +200,7 @@ module _ {X : Type 0} where
       is_flagged_page page = page.is_flagged
 
       taken_flag : (content : Option (Page X)) → flag_of content ≡ false → (page_for size content).is_flagged ≡ false
-      taken_flag None e = refl
-      taken_flag (Some page) e = e
+      taken_flag content e = grind arith
 
       apart : (number : ℕ) → flag_at table number ≡ true → number ≢ page_number place
       apart number flag same = false≢true (sym unflagged ∙ ap (flag_at table) (sym same) ∙ flag)
@@ -275,61 +232,32 @@ module _ {X : Type 0} where
   }
 
   is_none-of : (content : Option X) → is_some content ≡ false → content ≡ None
-  is_none-of None none = refl
-  is_none-of (Some block) none = absurd (false≢true (sym none))
+  is_none-of content none = grind (arith, false≢true)
 
   exchanged-empty : (table : Table X) (place : ℕ) (content : Option X) → is_some content ≡ is_some (block_at table place) → (other : ℕ) → block_at table other ≡ None → block_at (with_block table place content) other ≡ None
-  exchanged-empty table place content same other none = elim (cases_eq other place) [
-    | inl here ↦
-        let there : block_at table place ≡ None = ap (block_at table) (sym here) ∙ none in
-        let written : content ≡ block_at table place = is_none-of content (same ∙ ap is_some there) ∙ sym there in
-        ap (λ c. block_at (with_block table place c) other) written ∙ ap (λ t. block_at t other) (with_block-self table place) ∙ none
-    | inr apart ↦ block_at-with_block_other table place other content apart ∙ none
-  ]
+  exchanged-empty table place content same other none = grind (arith, cases_eq, is_none-of, with_block-self, block_at-with_block_other)
 
   exchanged-flags : (table : Table X) (number slot : ℕ) (content : Option X) (other : ℕ) → flag_at (set table number (option_map (page_with slot content) (page_at table number))) other ≡ flag_at table other
-  exchanged-flags [] number slot content other = refl
-  exchanged-flags (None ∷ table) zero slot content other = refl
-  exchanged-flags (Some page ∷ table) zero slot content zero = refl
-  exchanged-flags (Some page ∷ table) zero slot content (suc other) = refl
-  exchanged-flags (page ∷ table) (suc number) slot content zero = refl
   exchanged-flags (page ∷ table) (suc number) slot content (suc other) = exchanged-flags table number slot content other
+  exchanged-flags table number slot content other = grind arith
 
   exchanged-slot : (slots : List (Option X)) (slot : ℕ) (content : Option X) (other : ℕ) → is_some content ≡ is_some (get_or slots slot None) → get_or slots other None ≡ None → get_or (set slots slot content) other None ≡ None
-  exchanged-slot [] slot content other same none = none
-  exchanged-slot (old ∷ slots) zero content zero same none = is_none-of content (same ∙ ap is_some none)
-  exchanged-slot (old ∷ slots) zero content (suc other) same none = none
-  exchanged-slot (old ∷ slots) (suc slot) content zero same none = none
   exchanged-slot (old ∷ slots) (suc slot) content (suc other) same none = exchanged-slot slots slot content other same none
+  exchanged-slot slots slot content other same none = grind (arith, is_none-of)
 
   exchanged-only : (table : Table X) (number slot : ℕ) (content : Option X) (page : Page X) → page_at table number ≡ Some page → is_some content ≡ is_some (block_in slot page)
       → (other : ℕ) (now : Page X) → page_at (set table number (Some (page_with slot content page))) other ≡ Some now → now.is_flagged ≡ true → WasFlagged table other now
   exchanged-only table number slot content page at same other now is flag = elim (cases_eq other number) [
-    | inl here ↦
-        let written : page_with slot content page ≡ now = same_Some (page_with slot content page) now (sym (get_or-set_same table number (Some (page_with slot content page)) None (below_length table number page at)) ∙ ap (page_at (set table number (Some (page_with slot content page)))) (sym here) ∙ is) in
-        subst (WasFlagged table other) written (record {
-          before = page;
-          in_use = ap (page_at table) here ∙ at;
-          flag = ap (λ (p : Page X). p.is_flagged) written ∙ flag;
-          fuller = record { class = refl; slots = length-set page.slots slot content; empty = λ s none. exchanged-slot page.slots slot content s same none };
-        })
+    | inl here ↦ grind (arith, same_Some, get_or-set_same, below_length, length-set, exchanged-slot)
     | inr apart ↦ record { before = now; in_use = sym (get_or-set_other table number other (Some (page_with slot content page)) None apart) ∙ is; flag = flag; fuller = no_fuller-same now }
   ]
 
   exchanged-class : (table : Table X) (number slot : ℕ) (content : Option X) (page : Page X) → page_at table number ≡ Some page → (other : ℕ) (now : Page X) → page_at (set table number (Some (page_with slot content page))) other ≡ Some now → HadClass table other now
-  exchanged-class table number slot content page at other now is = elim (cases_eq other number) [
-    | inl here ↦
-        let written : page_with slot content page ≡ now = same_Some (page_with slot content page) now (sym (get_or-set_same table number (Some (page_with slot content page)) None (below_length table number page at)) ∙ ap (page_at (set table number (Some (page_with slot content page)))) (sym here) ∙ is) in
-        record { before = page; in_use = ap (page_at table) here ∙ at; class = ap (λ (p : Page X). p.class_size) (sym written) }
-    | inr apart ↦ record { before = now; in_use = sym (get_or-set_other table number other (Some (page_with slot content page)) None apart) ∙ is; class = refl }
-  ]
+  exchanged-class table number slot content page at other now is = grind (arith, cases_eq, same_Some, get_or-set_same, below_length, get_or-set_other)
 
   -- A block exchanged for another
   pub same_room-with_block : (table : Table X) (place : ℕ) (content : Option X) → is_some content ≡ is_some (block_at table place) → HasSameRoom table (with_block table place content)
-  same_room-with_block table place content same = go (page_at table number) refl same (record {
-    flags = λ other flag. exchanged-flags table number (slot_number place) content other ∙ flag;
-    empty = λ other flag none. exchanged-empty table place content same other none;
-  })
+  same_room-with_block table place content same = grind (arith, go, number, exchanged-flags, exchanged-empty)
     where
       number : ℕ
       number = page_number place
@@ -344,8 +272,5 @@ module _ {X : Type 0} where
             classes = exchanged-class table number (slot_number place) content page at;
             free = omega (arith, free_pages-set table number new inside, ap if_free at);
             room = λ size. omega (arith, dense_room-set table number new size inside, ap (room_in size) at, room-same size (slot_number place) content page e);
-            flagged = record {
-              flagged = subst (LeavesFlagged table) (ap (λ c. set table number (option_map (page_with (slot_number place) content) c)) at) leaves;
-              only = exchanged-only table number (slot_number place) content page at e;
-            };
+            flagged = grind (arith, number, exchanged-only);
           }

@@ -1,15 +1,10 @@
 -- The block that the search for a birth finds, and when two collectors show the same.
 use Rattle.std.proofs.Common.{◌≡◌, ℕ, ◌+◌, ◌*◌, ◌/◌, ◌%◌, ◌<◌, ◌==◌, true, false, not, ◌&&◌, Option, Some, None, is_some, option_map, option_and_then, IsSome, refl, sym, ap, ◌∙◌, subst, arith, eqb-true, eq-eqb}
-use Rattle.std.proofs.lemmas.Bool.{false≢true, and_parts}
-use Rattle.std.proofs.lemmas.Option.{none-some}
-use Rattle.mh_model.specs.World.{Object}
-use Rattle.mh_model.specs.Classes.{tabulate}
+use Rattle.std.proofs.{lemmas.Bool.{false≢true, and_parts}, lemmas.Option.none-some}
+use Rattle.mh_model.specs.{World.Object, Classes.tabulate, Pages.{page_at, block_in, block_at}}
+use Rattle.mh_model.specs.{Table.{Block, is_forwarder}, Collector.Collector}
+use Rattle.mh_model.specs.{View.{in_sweep, is_held, block_of_birth, object_of, object_shown}, Invariant.IsSound}
 use Rattle.mh_model.proofs.TabulateLemmas.{tabulate_same}
-use Rattle.mh_model.specs.Pages.{Page, page_at, block_in, block_at}
-use Rattle.mh_model.specs.Table.{Block, is_forwarder}
-use Rattle.mh_model.specs.Collector.{Collector}
-use Rattle.mh_model.specs.View.{in_sweep, is_held, block_of_birth, object_of, object_shown}
-use Rattle.mh_model.specs.Invariant.{IsSound}
 use Rattle.mh_laws.proofs.showing.ObjectsShown.{first_block-is, first_block-some}
 use Rattle.mh_table_laws.proofs.Lists.{below_length}
 
@@ -21,8 +16,7 @@ pub record IsFirstAt (c : Collector) (birth place : ℕ) (block : Block) : Type 
   pub first : block.part ≡ 0
 
 no_forward : (o : Option ℕ) → not (is_some o) ≡ true → o ≡ None
-no_forward None e = refl
-no_forward (Some q) e = absurd (false≢true e)
+no_forward o e = grind (arith, false≢true)
 
 pub held_live : (c : Collector) (place : ℕ) (block : Block) → is_held c place block ≡ true → block.forward ≡ None
 held_live c place block held = no_forward block.forward (and_parts (not (is_forwarder block)) _ held).0
@@ -33,11 +27,7 @@ live_held c place block no_sweep live = rw (live, no_sweep) refl
 
 module _ (n : ℕ) (c : Collector) (h : IsSound n c) where
   slot_below : (m s : ℕ) (y : Block) → option_and_then (block_in s) (page_at c.table m) ≡ Some y → s < 64
-  slot_below m s y e = by_page (page_at c.table m) refl e
-    where
-      by_page : (content : Option (Page Block)) → page_at c.table m ≡ content → option_and_then (block_in s) content ≡ Some y → s < 64
-      by_page None is f = absurd (none-some y f)
-      by_page (Some page) is f = omega (arith, h.narrow m page is, below_length page.slots s y f)
+  slot_below m s y e = grind (arith, none-some, below_length)
 
   -- what the search finds is at a place
   pub found-first : (birth : ℕ) (y : Block) → block_of_birth c birth ≡ Some y → (place : ℕ) × IsFirstAt c birth place y
@@ -48,15 +38,7 @@ module _ (n : ℕ) (c : Collector) (h : IsSound n c) where
       let slot_is : (64 * m + s) % 64 ≡ s = omega arith in
       let from_0 : 64 * (0 + m) + s ≡ 64 * m + s = omega arith in
       let (a, b) = and_parts (is_held c (64 * (0 + m) + s) y) ((y.birth == birth) && (y.part == 0)) pass in
-      let (is, part) = and_parts (y.birth == birth) (y.part == 0) b in (
-        64 * m + s,
-        record {
-          there = ap (λ k. option_and_then (block_in ((64 * m + s) % 64)) (page_at c.table k)) page_is ∙ ap (λ k. option_and_then (block_in k) (page_at c.table m)) slot_is ∙ at;
-          held = subst (λ k. is_held c k y ≡ true) from_0 a;
-          birth_is = eqb-true y.birth birth is;
-          first = eqb-true y.part 0 part;
-        },
-      )
+      grind (arith, and_parts, eqb-true)
 
   -- and what is held at a place is found
   pub first-found : (birth place : ℕ) (z : Block) → IsFirstAt c birth place z → block_of_birth c birth ≡ Some z
@@ -72,11 +54,7 @@ module _ (n : ℕ) (c : Collector) (h : IsSound n c) where
       found = first_block-some (λ place block. is_held c place block && ((block.birth == birth) && (block.part == 0))) 0 c.table (place / 64) (place % 64) z at.there (subst (λ k. (is_held c k z && ((z.birth == birth) && (z.part == 0))) ≡ true) (sym divided) passes)
 
       go : (o : Option Block) → block_of_birth c birth ≡ o → IsSome o → o ≡ Some z
-      go None e some = absurd (false≢true some)
-      go (Some y) e some =
-          let (p, f) = found-first birth y e in
-          let same : p ≡ place = h.one p place y z f.there at.there (held_live c p y f.held) (held_live c place z at.held) (f.birth_is ∙ sym at.birth_is) (f.first ∙ sym at.first) in
-          sym f.there ∙ ap (block_at c.table) same ∙ at.there
+      go o e some = grind (arith, false≢true, found-first, held_live)
 
 -- what is held of a birth in one state is held in another, and shows its object changed so
 abbrev pub IsShownAs : (Object → Object) → Collector → Collector → ℕ → Type 0
@@ -106,8 +84,7 @@ module _ (n m : ℕ) (c d : Collector) (h : IsSound n c) (k : IsSound m d) (birt
   shown-same forth back = shown-changed (λ object. object) forth back ∙ by (object_shown c birth)
     where
       by : (o : Option Object) → option_map (λ object. object) o ≡ o
-      by None = refl
-      by (Some object) = refl
+      by o = grind arith
 
 pub tabulate-same : {X : Type 0} (f f' : ℕ → X) → ((i : ℕ) → f' i ≡ f i) → (first count : ℕ) → tabulate f' first count ≡ tabulate f first count
 tabulate-same f f' same first count = tabulate_same f' f first count (λ i from below. same i)

@@ -1,12 +1,9 @@
 -- Two states show the same if each has the plain blocks of the other, with references that lead to the same blocks.
-use Rattle.std.proofs.Common.{◌≡◌, ℕ, zero, suc, ◌<◌, nat_le, if◌then◌else◌, ◌&&◌, Bool, true, false, inl, inr, List, [], ◌∷◌, ◌++◌, get_or, map, flat_map, Option, Some, None, option_map, refl, sym, ap, ◌∙◌, subst, eq-eqb, eqb-true}
+use Rattle.std.proofs.Common.{◌≡◌, ℕ, zero, suc, nat_le, if◌then◌else◌, Bool, true, false, inl, inr, List, [], ◌∷◌, ◌++◌, get_or, map, flat_map, Option, Some, None, option_map, refl, sym, ap, ◌∙◌, subst, eq-eqb, eqb-true, arith}
+use Rattle.std.proofs.{lemmas.Bool.{false≢true, leb-false}, lemmas.Option.same_Some}
 use Rattle.std.specs.Prelude.{option_to_list}
-use Rattle.std.proofs.lemmas.Bool.{false≢true, leb-false}
-use Rattle.std.proofs.lemmas.Option.{same_Some}
-use Rattle.mh_model.specs.Pages.{Table, block_at}
-use Rattle.mh_model.specs.Table.{Block, resolve, is_spine, is_tall}
-use Rattle.mh_model.specs.Collector.{Collector, is_marked}
-use Rattle.mh_model.specs.View.{in_sweep, is_held, block_named, blocks_named, birth_named, arraylet_words, field_blocks, object_of, object_shown}
+use Rattle.mh_model.specs.{Pages.{Table, block_at}, Table.{Block, resolve, is_spine, is_tall}, Collector.Collector}
+use Rattle.mh_model.specs.View.{is_held, block_named, blocks_named, birth_named, arraylet_words, field_blocks, object_of, object_shown}
 use Rattle.mh_model.specs.Invariant.{IsPlainAt, IsSound}
 use Rattle.mh_laws.proofs.marking.MarkSteps.{leads}
 use Rattle.mh_laws.proofs.showing.ObjectsShown.{Has, IsFieldBlock, arraylet_word-back, field_block-back}
@@ -15,29 +12,10 @@ use Rattle.mh_laws.proofs.showing.FoundBlocks.{IsShownAs, IsHeldIn, held_live, s
 -- Held blocks are the plain ones -----------------------------------------------------------------
 
 pub plain-held : (c : Collector) (p : ℕ) (x : Block) → IsPlainAt c p x → is_held c p x ≡ true
-plain-held c p x plain = go (in_sweep c.phase) refl
-  where
-    by_order : (b : Bool) → (b && false) ≡ false
-    by_order true = refl
-    by_order false = refl
-
-    go : (s : Bool) → in_sweep c.phase ≡ s → is_held c p x ≡ true
-    go false is = rw (plain.original, is) refl
-    go true is = rw (plain.original, is, eq-eqb x.stamp c.cycle (plain.surviving is), by_order (nat_le c.cursor p)) refl
+plain-held c p x plain = grind (arith, eq-eqb, nat_le)
 
 pub held-plain : (n : ℕ) (c : Collector) → IsSound n c → (p : ℕ) (x : Block) → block_at c.table p ≡ Some x → is_held c p x ≡ true → IsPlainAt c p x
-held-plain n c h p x there held = record { there = there; original = held_live c p x held; surviving = λ s. by_mark s (is_marked c.cycle x) refl (nat_le c.cursor p) refl }
-  where
-    by_mark : in_sweep c.phase ≡ true → (marked : Bool) → is_marked c.cycle x ≡ marked → (after : Bool) → nat_le c.cursor p ≡ after → x.stamp ≡ c.cycle
-    by_mark s true is after e = eqb-true x.stamp c.cycle is
-    by_mark s false is true e = absurd (false≢true (sym (condemned s is e) ∙ held))
-      where
-        condemned : in_sweep c.phase ≡ true → is_marked c.cycle x ≡ false → nat_le c.cursor p ≡ true → is_held c p x ≡ false
-        condemned s is e = rw (held_live c p x held, s, is, e) refl
-    by_mark s false is false e = h.swept s p x there (below (nat_le c.cursor p) refl e)
-      where
-        below : (b : Bool) → nat_le c.cursor p ≡ b → b ≡ false → p < c.cursor
-        below b is e = leb-false c.cursor p (is ∙ e)
+held-plain n c h p x there held = grind (arith, held_live, nat_le, eqb-true, false≢true, leb-false)
 
 -- Objects ----------------------------------------------------------------------------------------
 

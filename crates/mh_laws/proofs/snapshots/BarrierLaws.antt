@@ -1,12 +1,8 @@
 -- Barriers and what is written after them, as laws.
-use Rattle.std.proofs.Common.{subst}
-use Rattle.std.proofs.lemmas.Option.{same_Some}
-use Rattle.mh_model.specs.declared.shape.Shape.{Shape}
-use Rattle.mh_model.specs.Collector.{Collector}
-use Rattle.mh_model.specs.Invariant.{IsPlainAt}
+use Rattle.std.proofs.{Common.subst, lemmas.Option.same_Some}
+use Rattle.mh_model.specs.{declared.shape.Shape.Shape, Collector.Collector, Invariant.IsPlainAt}
 use Rattle.mh_laws.specs.Barriers.{BarriersKeepTheSnapshot, RootsWrittenKeepTheSnapshot, ObjectsMadeKeepTheSnapshot}
-use Rattle.mh_laws.proofs.marking.MarkSteps.{guarded}
-use Rattle.mh_laws.proofs.objects.NewbornBlocks.{made_group-born}
+use Rattle.mh_laws.proofs.{marking.MarkSteps.guarded, objects.NewbornBlocks.made_group-born}
 use Rattle.mh_laws.proofs.snapshots.NewObjects.{snapshot-borne, newborn_root, borne}
 use Rattle.mh_laws.proofs.snapshots.Barriers.{snapshot-with_root}
 

@@ -1,17 +1,13 @@
 -- Roots and fields overwritten after their barriers.
-use Rattle.std.proofs.Common.{◌≡◌, ℕ, zero, suc, if◌then◌else◌, Bool, true, false, inl, inr, [], get_or, set, Option, Some, None, option_map, unwrap_or, refl, sym, ap, ◌∙◌, subst}
-use Rattle.std.proofs.lemmas.Bool.{cases_eq, false≢true}
-use Rattle.std.proofs.lemmas.Option.{none-some, same_Some}
+use Rattle.std.proofs.Common.{◌≡◌, ℕ, zero, suc, if◌then◌else◌, Bool, true, false, inl, inr, [], get_or, set, Option, Some, None, option_map, unwrap_or, refl, sym, ap, ◌∙◌, subst, arith}
+use Rattle.std.proofs.{lemmas.Bool.{cases_eq, false≢true}, lemmas.Option.{none-some, same_Some}}
 use Rattle.std.proofs.lemmas.List.{get_or-set_other, length-set}
-use Rattle.mh_model.specs.World.{World, own_slot}
-use Rattle.mh_model.specs.Pages.{block_at, with_block}
+use Rattle.mh_model.specs.{World.{World, own_slot}, Pages.{block_at, with_block}}
 use Rattle.mh_model.specs.Table.{Block, Position, with_reference_at, with_number_at, number_index, resolve, reference_in}
 use Rattle.mh_model.specs.Collector.{Collector, with_shade}
 use Rattle.mh_model.specs.Mutator.{in_roots, in_roots_or_mark, with_root, with_roots_cleared, with_session_cleared, with_reference_stored, with_number_stored}
-use Rattle.mh_model.specs.Snapshot.{IsKept}
-use Rattle.mh_model.specs.Invariant.{IsPlainAt, HasFieldsAt, IsSound, IsMarkedAt, KeepsSnapshot}
-use Rattle.mh_table_laws.proofs.Lists.{get_or-set_either}
-use Rattle.mh_table_laws.proofs.objects.Headers.{flat_of}
+use Rattle.mh_model.specs.{Snapshot.IsKept, Invariant.{IsPlainAt, HasFieldsAt, IsSound, IsMarkedAt, KeepsSnapshot}}
+use Rattle.mh_table_laws.proofs.{Lists.get_or-set_either, objects.Headers.flat_of}
 use Rattle.mh_laws.proofs.marking.BlockChanges.{IsChange, IsKeptChange, snapshot-changed, resolve-live, not_sweep, roots_mark}
 use Rattle.mh_laws.proofs.marking.SameTable.{snapshot-turned}
 use Rattle.mh_laws.proofs.marking.MarkSteps.{IsGuarded, guarded, unguarded, root_target, leads}
@@ -113,15 +109,7 @@ module _ (snapshot : World) (n : ℕ) where
   fields_after : (c d : Collector) (o : Option ℕ) → in_roots_or_mark c.phase ≡ true → IsGuarded snapshot n c d o → (place : ℕ) (block : Block) (stamp : ℕ) → block_at d.table place ≡ Some (record block { stamp = stamp }) → HasFieldsAt c place block → HasFieldsAt d place (record block { stamp = stamp })
   fields_after c d o marks g place block stamp there f =
       let (s, there_first) = g.blocks f.first_place f.first f.first_plain.there in
-      record {
-        plain = record { there = there; original = f.plain.original; surviving = λ sweeps. absurd (not_sweep d.phase (ap in_roots_or_mark g.phase ∙ marks) sweeps) };
-        first_place = f.first_place;
-        first = record (f.first) { stamp = s };
-        first_plain = record { there = there_first; original = f.first_plain.original; surviving = λ sweeps. absurd (not_sweep d.phase (ap in_roots_or_mark g.phase ∙ marks) sweeps) };
-        first_part = f.first_part;
-        same = f.same;
-        flat = f.flat;
-      }
+      search (arith, not_sweep)
 
   module _ (c d : Collector) (o : Option ℕ) (position : Position) (reference : Option ℕ) (shaded : in_roots_or_mark d.phase ≡ true → o ≡ reference_in c.table position) (g : IsGuarded snapshot n c d o) (f : HasFields d position.place)
       (w : IsWritable d reference) where
@@ -147,10 +135,7 @@ module _ (snapshot : World) (n : ℕ) where
       quiet = g.keeps.sound.quiet;
       rewrites = true;
       words = λ i r e. elim (get_or-set_either old.references index i reference None (Some r) e) [
-        | inl is ↦
-            let (x, plain, first, kept) = w.leads r is in
-            let self : resolve d.table r ≡ r = resolve-live d.table r x plain.there plain.original in
-            inr (refl, (x, subst (λ z. IsPlainAt d z x) (sym self) plain, first))
+        | inl is ↦ grind (arith, resolve-live)
         | inr was ↦ inl (r, was, refl)
       ];
       spine = λ s. absurd (false≢true (sym s));

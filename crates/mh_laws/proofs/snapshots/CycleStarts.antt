@@ -2,24 +2,19 @@
 use Rattle.std.proofs.Common.{◌≡◌, ◌≢◌, ℕ, zero, suc, ◌+◌, ◌<◌, ◌≤◌, Bool, true, false, ◌⊎◌, inl, inr, List, [], ◌∷◌, length, get_or, map, slice_get, Option, Some, None, option_map, refl, sym, ap, ap₂, ◌∙◌, subst, arith}
 use Rattle.std.proofs.lemmas.Bool.{false≢true, ltb-true, ltb-false}
 use Rattle.std.proofs.lemmas.Option.{none-some, same_Some, slice_get_within}
-use Rattle.mh_model.specs.declared.shape.Shape.{Shape}
-use Rattle.mh_model.specs.World.{Object, World, births, object_at, slot_at, reference_of}
-use Rattle.mh_model.specs.Paths.{IsPath, Reachable}
-use Rattle.mh_model.specs.Classes.{Part, run_count, middle_count, parts}
-use Rattle.mh_model.specs.Pages.{Table, block_at}
-use Rattle.mh_model.specs.Table.{Block, resolve, is_spine}
-use Rattle.mh_model.specs.Collector.{Collector, cycle_start}
-use Rattle.mh_model.specs.Mutator.{HeapState}
+use Rattle.mh_model.specs.{declared.shape.Shape.Shape, World.{Object, World, births, object_at, slot_at, reference_of}}
+use Rattle.mh_model.specs.{Paths.{IsPath, Reachable}, Classes.{Part, run_count, middle_count, parts}}
+use Rattle.mh_model.specs.{Pages.{Table, block_at}, Table.{Block, resolve, is_spine}}
+use Rattle.mh_model.specs.{Collector.{Collector, cycle_start}, Mutator.HeapState}
 use Rattle.mh_model.specs.View.{in_sweep, block_of_birth, birth_named, arraylet_words, object_of, object_shown, heap_view}
 use Rattle.mh_model.specs.Invariant.{IsPlainAt, IsPartOf, first_child, IsSound, IsMarkedAt, WillBeMarked, IsWhole, KeepsSnapshot}
 use Rattle.mh_laws.proofs.marking.BlockChanges.{resolve-live, live_plain}
-use Rattle.mh_table_laws.proofs.objects.Parts.{later_part, IsChild, parent_of, child_is}
-use Rattle.mh_table_laws.proofs.objects.Headers.{header_is}
-use Rattle.mh_table_laws.proofs.objects.JoinedFields.{has_children, has_none, an_arraylet, arraylet_count}
 use Rattle.mh_laws.proofs.showing.FoundBlocks.{live_held, first-found, IsFirstAt}
 use Rattle.mh_laws.proofs.showing.ObjectsShown.{IsFieldBlock, named-back, named-forth, refers-back, refers-forth, tabulate-read}
-use Rattle.mh_model.proofs.TabulateLemmas.{length-tabulate, get_or-tabulate}
+use Rattle.mh_table_laws.proofs.{objects.Parts.{later_part, IsChild, parent_of, child_is}, objects.Headers.header_is}
+use Rattle.mh_table_laws.proofs.objects.JoinedFields.{has_children, has_none, an_arraylet, arraylet_count}
 use Rattle.mh_table_laws.proofs.Lists.{below_length}
+use Rattle.mh_model.proofs.TabulateLemmas.{length-tabulate, get_or-tabulate}
 
 pub births-view : (heap : HeapState) → births (heap_view heap) ≡ heap.next_birth
 unfolding heap_view
@@ -94,8 +89,7 @@ module _ (heap : HeapState) (no_sweep : in_sweep heap.collector.phase ≡ false)
   shown p z there live first = first-found heap.next_birth c h z.birth p z (record { there = there; held = live_held c p z no_sweep live; birth_is = refl; first = first })
 
   pub shown_object : (birth p : ℕ) (z : Block) → block_at t₀ p ≡ Some z → z.forward ≡ None → z.part ≡ 0 → z.birth ≡ birth → object_at view birth ≡ Some (object_of t₀ z)
-  shown_object birth p z there live first is =
-      object-view heap birth (subst (λ b. b < heap.next_birth) is (h.births p z there)) ∙ ap (λ b. option_map (object_of t₀) (block_of_birth c b)) (sym is) ∙ ap (option_map (object_of t₀)) (shown p z there live first)
+  shown_object birth p z there live first is = search (arith, object-view, shown)
 
   -- What is reachable is promised ------------------------------------------------------------------
 
@@ -125,8 +119,6 @@ module _ (heap : HeapState) (no_sweep : in_sweep heap.collector.phase ≡ false)
 
   -- each is promised, by the part of which it is a child
   reached_part : (bound birth number : ℕ) → IsReached birth → number < bound → number < length (parts_of birth) → IsPartReached birth number
-  reached_part zero birth number f less below = absurd (omega (arith, less))
-  reached_part (suc bound) birth zero f less below = record { place = f.place; block = f.block; plain = plain_of f.place f.block f.there f.live; birth_is = f.birth_is; part_is = f.first; promised = f.promised }
   reached_part (suc bound) birth (suc number) f less below =
       let s : Shape = h.shapes birth in
       let k = parent_of s.references s.numbers number below in
@@ -142,6 +134,7 @@ module _ (heap : HeapState) (no_sweep : in_sweep heap.collector.phase ≡ false)
           let size : length r.block.references ≡ k.part.references = part_r.references ∙ ap (λ (x : Part). x.references) (same_Some part_r.part k.part (sym at ∙ k.at)) in
           let (w, e, (y, plain_y, birth_y, part_y)) = h.spines r.place r.block k.child r.plain children k.index (omega (arith, size, k.inside)) in
           record { place = resolve t₀ w; block = y; plain = plain_y; birth_is = birth_y ∙ r.birth_is; part_is = part_y ∙ k.number_is; promised = further r.place r.block r.plain.there r.plain.original r.promised k.index w e }
+  reached_part bound birth number f less below = grind (arith, plain_of)
 
   -- a block of an object that is reached is its part
   reached_block : (q : ℕ) (x : Block) → block_at t₀ q ≡ Some x → x.forward ≡ None → IsReached x.birth → WillBeMarked started q
@@ -248,8 +241,7 @@ module _ (heap : HeapState) (no_sweep : in_sweep heap.collector.phase ≡ false)
           ]
         where
           by_test : (b : Bool) → is_spine f.block ≡ b → 60 < f.block.header.references + f.block.header.numbers → is_spine f.block ≡ true
-          by_test true e many = e
-          by_test false e many = absurd (omega (arith, many, ltb-false 60 (f.block.header.references + f.block.header.numbers) e))
+          by_test b e many = grind (arith, ltb-false)
 
       by_children : (child : Option ℕ) → first_child (h.shapes x.birth) x.part ≡ child → IsReached x.birth → Reachable view t.birth
       by_children None flat f = fields f flat x.part refl

@@ -1,19 +1,13 @@
 -- Steps of the collector and quanta: each keeps the snapshot of a running cycle, and the last of them leaves what the cycle keeps.
 -- The invariant is `KeepsSnapshot` of the model: `IsSound` of the state alone, and `KeepsCycle` of the cycle with a world taken as its snapshot.
-use Rattle.std.proofs.Common.{◌≡◌, ℕ, zero, suc, ◌+◌, ◌-◌, ◌==◌, nat_lt, if◌then◌else◌, Bool, true, false, ◌||◌, inl, inr, List, [], ◌∷◌, None, refl, sym, ap, ◌∙◌, subst, arith, eqb-true}
-use Rattle.std.proofs.lemmas.Bool.{false≢true, cases_Bool, or_parts}
-use Rattle.std.proofs.lemmas.Option.{none-some}
-use Rattle.std.proofs.lemmas.List.{get_or_past}
-use Rattle.mh_model.specs.declared.config.Config.{Config}
-use Rattle.mh_model.specs.declared.cycle.Phase.{Phase}
-use Rattle.mh_model.specs.declared.cycle.Phase.TheVariants.{Idle, Roots, Mark, Sweep, Defrag}
-use Rattle.mh_model.specs.World.{World}
+use Rattle.std.proofs.Common.{◌≡◌, ℕ, zero, suc, ◌+◌, ◌-◌, ◌==◌, nat_lt, if◌then◌else◌, Bool, true, false, ◌||◌, inl, inr, List, refl, sym, ap, ◌∙◌, subst, arith, eqb-true}
+use Rattle.std.proofs.{lemmas.Bool.{false≢true, cases_Bool, or_parts}, lemmas.Option.none-some, lemmas.List.get_or_past}
+use Rattle.mh_model.specs.{declared.config.Config.Config, declared.cycle.Phase.Phase}
+use Rattle.mh_model.specs.{declared.cycle.Phase.TheVariants.{Idle, Roots, Mark, Sweep, Defrag}, World.World}
 use Rattle.mh_model.specs.Collector.{Collector, mark_step, marking_of, with_marking, with_phase, roots_step, sweep_step, defrag_step, after_mark, is_past, cycle_end, phase_after, step_in, collector_step, step_cost, is_moving, is_idle, quantum_start, steps, quantum}
-use Rattle.mh_model.specs.Mutator.{in_roots_or_mark, in_roots}
-use Rattle.mh_model.specs.Invariant.{IsFromRoot, KeepsSnapshot, Continues}
+use Rattle.mh_model.specs.{Mutator.{in_roots_or_mark, in_roots}, Invariant.{IsFromRoot, KeepsSnapshot, Continues}}
 use Rattle.mh_model.specs.Limits.{root_slots}
-use Rattle.mh_laws.proofs.costs.Quanta.{steps-stop, steps-go}
-use Rattle.mh_laws.proofs.marking.SameTable.{snapshot-turned}
+use Rattle.mh_laws.proofs.{costs.Quanta.{steps-stop, steps-go}, marking.SameTable.snapshot-turned}
 use Rattle.mh_laws.proofs.marking.MarkSteps.{snapshot-roots_step, snapshot-mark_step}
 use Rattle.mh_laws.proofs.sweeping.SweepSteps.{snapshot-after_mark, snapshot-sweep_step, snapshot-after_sweep}
 use Rattle.mh_laws.proofs.moving.MoveSteps.{snapshot-defrag_step, snapshot-cycle_end, finished-cycle_end}
@@ -24,13 +18,10 @@ module _ (snapshot : World) (n : ℕ) where
   after_roots c phase h = go (c.cursor == root_slots) refl
     where
       no_root : c.cursor ≡ root_slots → (q : ℕ) → IsFromRoot c q → ⊥
-      no_root last q from =
-          let (i, r, after, at, to) = from.1 in
-          absurd (none-some r (sym (get_or_past c.slots i None (omega (arith, h.sound.roots, after, last))) ∙ at))
+      no_root last q from = grind (arith, none-some, get_or_past)
 
       running : (grey : List ℕ) → KeepsSnapshot snapshot n (after_mark c grey) → Continues snapshot n (after_mark c grey)
-      running [] k = record { keeps = k; ends = λ i. absurd (false≢true i) }
-      running (g ∷ grey) k = record { keeps = k; ends = λ i. absurd (false≢true i) }
+      running grey k = grind (arith, false≢true)
 
       go : (b : Bool) → (c.cursor == root_slots) ≡ b → Continues snapshot n (if b then after_mark c c.grey else c)
       go true e = running c.grey (snapshot-after_mark snapshot n c (ap in_roots_or_mark phase) (no_root (eqb-true c.cursor root_slots e)) h)
@@ -40,8 +31,7 @@ module _ (snapshot : World) (n : ℕ) where
   after_marking c phase h = running c.grey (snapshot-after_mark snapshot n c (ap in_roots_or_mark phase) (λ q from. false≢true (ap in_roots (sym phase ∙ from.0))) h)
     where
       running : (grey : List ℕ) → KeepsSnapshot snapshot n (after_mark c grey) → Continues snapshot n (after_mark c grey)
-      running [] k = record { keeps = k; ends = λ i. absurd (false≢true i) }
-      running (g ∷ grey) k = record { keeps = k; ends = λ i. absurd (false≢true i) }
+      running grey k = grind (arith, false≢true)
 
   after_sweep : (c : Collector) → c.phase ≡ Sweep → KeepsSnapshot snapshot n c → Continues snapshot n (phase_after Sweep c)
   after_sweep c phase h = go (is_past c.table c.cursor) refl
@@ -82,19 +72,7 @@ module _ (snapshot : World) (n : ℕ) where
 
   -- a cycle that runs has had one quantum more, or is asked for
   pub snapshot-counted : (c : Collector) (asked : Bool) (quanta : ℕ) → KeepsSnapshot snapshot n c → KeepsSnapshot snapshot n (record c { is_asked = asked; quanta = quanta })
-  snapshot-counted c asked quanta h = snapshot-turned c c.slots c.phase c.cursor c.grey asked quanta (record {
-    enters = λ s. s;
-    leaves = λ no s. absurd (false≢true (sym no ∙ s));
-    roots = h.sound.roots;
-    slots = h.sound.slots;
-    listed = λ q is. is;
-    quiet = h.sound.quiet;
-    traces = λ t. t;
-    left = λ t q x is e. inl is;
-    swept = h.sound.swept;
-    marked = h.sound.marked;
-    dense = h.sound.dense;
-  }) snapshot n (record {
+  snapshot-counted c asked quanta h = snapshot-turned c c.slots c.phase c.cursor c.grey asked quanta (grind (arith, false≢true)) snapshot n (record {
     runs = λ r. r;
     marks = λ m. m;
     from_root = λ t q x e from. inr from;

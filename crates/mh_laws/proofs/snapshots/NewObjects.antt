@@ -1,26 +1,16 @@
 -- An object born in a running cycle: it is whole and marked, and what the cycle keeps stays.
-use Rattle.std.proofs.Common.{◌≡◌, ◌≢◌, ℕ, ◌+◌, ◌<◌, ◌==◌, if◌then◌else◌, Bool, true, false, ◌⊎◌, inl, inr, [], length, get_or, slice_get, Option, Some, None, option_and_then, unwrap_or, refl, sym, ap, ◌∙◌, subst, arith, eq-eqb, eqb-true}
-use Rattle.std.proofs.lemmas.Bool.{cases_lt}
-use Rattle.std.proofs.lemmas.Option.{none-some, same_Some}
-use Rattle.mh_model.specs.declared.shape.Shape.{Shape}
-use Rattle.mh_model.specs.World.{World}
-use Rattle.mh_model.specs.Paths.{Reachable}
-use Rattle.mh_model.specs.Classes.{parts}
-use Rattle.mh_model.specs.Pages.{page_number, block_at}
-use Rattle.mh_model.specs.Table.{Block, Made, resolve}
-use Rattle.mh_model.specs.Collector.{Collector, is_idle}
-use Rattle.mh_model.specs.Mutator.{in_roots_or_mark}
+use Rattle.std.proofs.Common.{◌≡◌, ◌≢◌, ℕ, ◌+◌, ◌<◌, ◌==◌, if◌then◌else◌, true, false, ◌⊎◌, inl, inr, [], length, get_or, slice_get, Option, Some, None, option_and_then, unwrap_or, refl, sym, ap, ◌∙◌, subst, arith, eq-eqb, eqb-true}
+use Rattle.std.proofs.{lemmas.Bool.cases_lt, lemmas.Option.{none-some, same_Some}}
+use Rattle.mh_model.specs.{declared.shape.Shape.Shape, World.World, Paths.Reachable, Classes.parts, Pages.block_at}
+use Rattle.mh_model.specs.{Table.{Block, Made, resolve}, Collector.{Collector, is_idle}, Mutator.in_roots_or_mark}
 use Rattle.mh_model.specs.Snapshot.{IsKept}
 use Rattle.mh_model.specs.Invariant.{IsPlainAt, IsPartOf, first_child, IsSound, Links, IsWhole, KeepsCycle, KeepsSnapshot}
-use Rattle.mh_laws.proofs.marking.MarkingPaths.{Keeps, promises_stay}
-use Rattle.mh_laws.proofs.marking.BlockChanges.{resolve-live, not_sweep}
-use Rattle.mh_laws.proofs.marking.MarkSteps.{leads}
+use Rattle.mh_laws.proofs.{marking.MarkingPaths.{Keeps, promises_stay}, marking.BlockChanges.{resolve-live, not_sweep}}
+use Rattle.mh_laws.proofs.{marking.MarkSteps.leads, objects.NewbornBlocks.{IsNewborn, IsObjectBorn}}
 use Rattle.mh_table_laws.proofs.objects.Parts.{first_part, slice_there}
-use Rattle.mh_laws.proofs.objects.NewbornBlocks.{IsNewborn, IsObjectBorn}
 
 pub kept_on : (snapshot : World) (n birth : ℕ) → IsKept snapshot n birth → IsKept snapshot (n + 1) birth
-kept_on snapshot n birth (inl reached) = inl reached
-kept_on snapshot n birth (inr since) = inr (since.0, omega (arith, since.1))
+kept_on snapshot n birth is = grind arith
 
 module _ (snapshot : World) (n : ℕ) (c : Collector) (shape : Shape) (made : Made) (h : KeepsSnapshot snapshot n c) (born : IsObjectBorn c.table n c.cycle shape made) where
   abbrev pub borne : Collector
@@ -53,15 +43,10 @@ module _ (snapshot : World) (n : ℕ) (c : Collector) (shape : Shape) (made : Ma
   resolve-borne r = go (block_at c.table r) refl
     where
       fresh : block_at c.table r ≡ None → (o : Option Block) → block_at borne.table r ≡ o → unwrap_or (option_and_then (λ x. x.forward) o) r ≡ r
-      fresh is None e = refl
-      fresh is (Some x) e = elim (either r x e) [
-        | inl old ↦ absurd (none-some x (sym is ∙ old))
-        | inr new ↦ ap (λ o. unwrap_or o r) new.newborn.live
-      ]
+      fresh is o e = search (arith, either, none-some)
 
       go : (o : Option Block) → block_at c.table r ≡ o → resolve borne.table r ≡ resolve c.table r
-      go (Some x) is = ap (λ o. unwrap_or (option_and_then (λ y. y.forward) o) r) (born.kept r x is ∙ sym is)
-      go None is = fresh is (block_at borne.table r) refl ∙ sym (ap (λ o. unwrap_or (option_and_then (λ (y : Block). y.forward) o) r) is)
+      go o is = search (arith, fresh)
 
   pub plain_forth : (q : ℕ) (x : Block) → IsPlainAt c q x → IsPlainAt borne q x
   plain_forth q x plain = record { there = born.kept q x plain.there; original = plain.original; surviving = plain.surviving }
@@ -86,11 +71,7 @@ module _ (snapshot : World) (n : ℕ) (c : Collector) (shape : Shape) (made : Ma
   shape_new birth same = ap (λ b. if b then shape else h.sound.shapes birth) (eq-eqb birth n same)
 
   shape_old : (birth : ℕ) → birth ≢ n → (if birth == n then shape else h.sound.shapes birth) ≡ h.sound.shapes birth
-  shape_old birth apart = go (birth == n) refl
-    where
-      go : (b : Bool) → (birth == n) ≡ b → (if b then shape else h.sound.shapes birth) ≡ h.sound.shapes birth
-      go true e = absurd (apart (eqb-true birth n e))
-      go false e = refl
+  shape_old birth apart = grind (arith, eqb-true)
 
   -- parts have the children that they had, and those of the object that was born its shape's
   child_old : (q : ℕ) (x : Block) → block_at c.table q ≡ Some x → first_child (h.sound.shapes x.birth) x.part ≡ first_child (if x.birth == n then shape else h.sound.shapes x.birth) x.part
@@ -111,15 +92,10 @@ module _ (snapshot : World) (n : ℕ) (c : Collector) (shape : Shape) (made : Ma
       | inr new ↦ subst (λ s. IsPartOf s x) (sym (shape_new x.birth new.newborn.birth_is)) new.newborn.part_of
     ];
     one = λ q r x y e f live live' birth part. elim (either q x e) [
-      | inl old ↦ elim (either r y f) [
-        | inl old' ↦ h.sound.one q r x y old old' live live' birth part
-        | inr new' ↦ absurd (old_birth q x old (birth ∙ new'.newborn.birth_is))
-      ]
+      | inl old ↦ search (arith, either, old_birth)
       | inr new ↦ elim (either r y f) [
         | inl old' ↦ absurd (old_birth r y old' (sym birth ∙ new.newborn.birth_is))
-        | inr new' ↦
-            let same : new.index ≡ new'.index = sym new.newborn.part_is ∙ part ∙ new'.newborn.part_is in
-            same_Some q r (sym new.at ∙ ap (slice_get born.places) same ∙ new'.at)
+        | inr new' ↦ grind (arith, same_Some)
       ]
     ];
     slots = λ i r e. let (x, plain, first) = h.sound.slots i r e in (x, plain_forth r x plain, first);
@@ -143,10 +119,7 @@ module _ (snapshot : World) (n : ℕ) (c : Collector) (shape : Shape) (made : Ma
     ];
     swept = λ t q x e below. elim (either q x e) [ inl old ↦ h.sound.swept t q x old below | inr new ↦ new.newborn.stamp_is ];
     marked = λ t q x e. elim (either q x e) [ inl old ↦ h.sound.marked t q x old | inr new ↦ new.newborn.stamp_is ];
-    dense = λ t q target x e f. elim (either q x e) [
-      | inl old ↦ born.flags (page_number target) (h.sound.dense t q target x old f)
-      | inr new ↦ absurd (none-some target (sym new.newborn.live ∙ f))
-    ];
+    dense = λ t q target x e f. search (arith, either, none-some);
   }
 
   links : (q t : ℕ) → Links c.table q t → Links borne.table q t

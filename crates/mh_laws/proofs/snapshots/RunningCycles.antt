@@ -1,44 +1,26 @@
 -- Quanta that start a cycle or none, events, and every moment of a run: some world is the snapshot of the running cycle.
 use Rattle.std.proofs.Common.{◌≡◌, ℕ, ◌≤◌, true, false, inl, inr, List, Some, option_and_then, refl, sym, ap, ◌∙◌, subst, arith}
-use Rattle.std.proofs.lemmas.Bool.{false≢true, cases_Bool}
-use Rattle.std.proofs.lemmas.Option.{none-some}
-use Rattle.mh_model.specs.declared.config.Config.{Config}
-use Rattle.mh_model.specs.declared.command.Command.{Command}
-use Rattle.mh_model.specs.declared.command.Event.{Event}
-use Rattle.mh_model.specs.declared.cycle.Phase.TheVariants.{Idle}
-use Rattle.mh_model.specs.World.{World, births, first_world}
-use Rattle.mh_model.specs.Pages.{page_number, slot_number, block_in, block_at}
+use Rattle.std.proofs.{lemmas.Bool.{false≢true, cases_Bool}, lemmas.Option.none-some}
+use Rattle.mh_model.specs.{declared.config.Config.Config, declared.command.Command.Command}
+use Rattle.mh_model.specs.{declared.command.Event.Event, declared.cycle.Phase.TheVariants.Idle}
+use Rattle.mh_model.specs.{World.{World, births, first_world}, Pages.{page_number, slot_number, block_in, block_at}}
 use Rattle.mh_model.specs.Table.{Block, resolve}
 use Rattle.mh_model.specs.Collector.{Collector, first_collector, is_idle, is_start_due, cycle_start, quantum_start, quantum}
-use Rattle.mh_model.specs.Mutator.{HeapState, first_heap, in_roots_or_mark}
+use Rattle.mh_model.specs.Mutator.{HeapState, first_heap}
 use Rattle.mh_model.specs.Machine.{Machine, first_machine, with_collector, quantum_run, command_step, half_step, machine_after}
 use Rattle.mh_model.specs.View.{in_sweep, heap_view}
-use Rattle.mh_model.specs.Invariant.{IsSound, KeepsSnapshot, Continues, IsLinked, IsKeeping}
-use Rattle.mh_model.specs.Limits.{root_slots}
+use Rattle.mh_model.specs.{Invariant.{IsSound, KeepsSnapshot, Continues, IsLinked, IsKeeping}, Limits.root_slots}
 use Rattle.mh_laws.specs.Snapshots.{MomentsKeepASnapshot}
 use Rattle.mh_table_laws.proofs.Lists.{none_at}
-use Rattle.mh_laws.proofs.runs.EveryMoment.{half_step-keeps, machine_after-keeps}
-use Rattle.mh_laws.proofs.marking.MarkSteps.{leads}
+use Rattle.mh_laws.proofs.{runs.EveryMoment.{half_step-keeps, machine_after-keeps}, marking.MarkSteps.leads}
 use Rattle.mh_laws.proofs.snapshots.CycleSteps.{continues-steps, continues-quantum, snapshot-counted}
-use Rattle.mh_laws.proofs.snapshots.SessionCommands.{snapshot-mutator_step}
-use Rattle.mh_laws.proofs.snapshots.CycleStarts.{snapshot-started}
+use Rattle.mh_laws.proofs.{snapshots.SessionCommands.snapshot-mutator_step, snapshots.CycleStarts.snapshot-started}
 use Rattle.mh_laws.proofs.showing.SamePlainBlocks.{plain-held, held-plain}
 use Rattle.mh_laws.proofs.costs.QuantumStarts.{idle_is, quantum-rests, begins}
 
 -- if no cycle runs, a sound state keeps any snapshot
 pub snapshot-idle : (snapshot : World) (n : ℕ) (c : Collector) → c.phase ≡ Idle → births snapshot ≤ n → IsSound n c → KeepsSnapshot snapshot n c
-snapshot-idle snapshot n c idle before sound = record {
-  sound = sound;
-  before = before;
-  cycle = record {
-    path = λ m. absurd (false≢true (ap in_roots_or_mark (sym idle) ∙ m));
-    marked = λ m. absurd (false≢true (sym m ∙ ap is_idle idle));
-    whole = λ m. absurd (false≢true (sym m ∙ ap is_idle idle));
-    born = λ m. absurd (false≢true (sym m ∙ ap is_idle idle));
-    slots = λ m. absurd (false≢true (ap in_roots_or_mark (sym idle) ∙ m));
-    references = λ m. absurd (false≢true (ap in_roots_or_mark (sym idle) ∙ m));
-  };
-}
+snapshot-idle snapshot n c idle before sound = grind (arith, false≢true)
 
 -- A quantum that starts a cycle keeps what is reachable in the view at its entry, or ends the cycle with just that and what is born since
 pub continues-start : (heap : HeapState) → heap.collector.phase ≡ Idle → is_start_due heap.config heap.collector ≡ true → IsSound heap.next_birth heap.collector → Continues (heap_view heap) heap.next_birth (quantum heap.config heap.collector).collector
@@ -130,7 +112,4 @@ keeping-half : (config : Config) (events : List Event) (e : Event) → IsKeeping
 keeping-half config events e = half_step-keeps (λ machine. IsKeeping machine.heap) keeping-command_step keeping-quantum_run keeping-asking (machine_after (first_machine config) events) e (keeping-run config events)
 
 pub moments_keep : MomentsKeepASnapshot
-moments_keep = record {
-  at_each = λ config events. linked_too (machine_after (first_machine config) events).heap (keeping-run config events);
-  half = λ config events e. linked_too (half_step (machine_after (first_machine config) events) e).heap (keeping-half config events e);
-}
+moments_keep = search (arith, linked_too, keeping-run, keeping-half)

@@ -1,26 +1,19 @@
 -- Commands of sessions keep the snapshot of a running cycle.
 use Rattle.std.proofs.Common.{◌≡◌, ℕ, ◌+◌, ◌/◌, ◌%◌, ◌<◌, nat_le, if◌then◌else◌, Bool, true, false, List, [], ◌∷◌, get_or, Option, Some, None, option_map, option_and_then, unwrap_or, refl, sym, ap, ◌∙◌, subst, arith}
-use Rattle.std.proofs.lemmas.Bool.{false≢true, leb-false}
-use Rattle.std.proofs.lemmas.Option.{none-some, same_Some}
-use Rattle.mh_model.specs.declared.command.Command.{Command}
-use Rattle.mh_model.specs.declared.command.Command.TheVariants as command
-use Rattle.mh_model.specs.declared.shape.Shape.{Shape}
-use Rattle.mh_model.specs.declared.reply.Refusal.{Refusal}
+use Rattle.std.proofs.{lemmas.Bool.{false≢true, leb-false}, lemmas.Option.{none-some, same_Some}}
+use Rattle.mh_model.specs.{declared.command.Command.Command, declared.shape.Shape.Shape, declared.reply.Refusal.Refusal}
 use Rattle.mh_model.specs.declared.reply.Refusal.TheVariants.{Ended, TooManySessions}
 use Rattle.mh_model.specs.World.{World, own_slot, board_slot, first_refusal, is_null, lacks_reference, tests, refusal, unless_refused}
 use Rattle.mh_model.specs.Pages.{block_at}
 use Rattle.mh_model.specs.Table.{Block, Made, Position, resolve, target_of, is_spine, is_tall, is_at, child_place, spine_place, arraylet_place, position_of, reference_in, loaded_reference}
 use Rattle.mh_model.specs.Collector.{Collector}
 use Rattle.mh_model.specs.Mutator.{HeapState, in_roots_or_mark, root_at, shape_at, field_of, number_field, new_group, with_born, heap_sight, heap_effect, mutator_step}
-use Rattle.mh_model.specs.Snapshot.{IsKept}
-use Rattle.mh_model.specs.Invariant.{IsPlainAt, KeepsSnapshot}
-use Rattle.mh_laws.proofs.marking.BlockChanges.{resolve-live}
-use Rattle.mh_laws.proofs.marking.MarkSteps.{leads}
+use Rattle.mh_model.specs.{Snapshot.IsKept, Invariant.{IsPlainAt, KeepsSnapshot}}
+use Rattle.mh_laws.proofs.{marking.BlockChanges.resolve-live, marking.MarkSteps.leads}
 use Rattle.mh_laws.proofs.snapshots.Barriers.{IsWritable, HasFields, nothing_writable, root_writable, snapshot-with_root, snapshot-with_session_cleared, snapshot-with_reference_stored, snapshot-with_number_stored}
 use Rattle.mh_laws.proofs.objects.NewbornBlocks.{made_group-born}
-use Rattle.mh_table_laws.proofs.objects.Headers.{flat_of}
-use Rattle.mh_table_laws.proofs.objects.JoinedFields.{laid, has_fields}
 use Rattle.mh_laws.proofs.snapshots.NewObjects.{snapshot-borne, newborn_root, borne}
+use Rattle.mh_table_laws.proofs.objects.{Headers.flat_of, JoinedFields.{laid, has_fields}}
 
 -- Refusals ---------------------------------------------------------------------------------------
 
@@ -34,20 +27,17 @@ each_fails [] e = tt
 each_fails (test ∷ list) e = go test.0 refl e (λ f. each_fails list f)
   where
     go : (b : Bool) → test.0 ≡ b → (if b then Some test.1 else first_refusal list) ≡ None → (first_refusal list ≡ None → EachFails list) → (test.0 ≡ false) × EachFails list
-    go true is f ih = absurd (none-some test.1 (sym f))
-    go false is f ih = (is, ih f)
+    go b is f ih = grind (arith, none-some)
 
 -- if a field lies, by whether the block is a spine
 abbrev position_if : Collector → ℕ → ℕ → Bool → Position
 position_if collector place field spine = if spine then record { place = arraylet_place collector.table place field; index = field % 60 } else record { place = place; index = field }
 
 pub not_null : (shape : Option Shape) → is_null shape ≡ false → (s : Shape) × (shape ≡ Some s)
-not_null None e = absurd (false≢true (sym e))
-not_null (Some s) e = (s, refl)
+not_null shape e = grind (arith, false≢true)
 
 pub has_reference : (shape : Option Shape) (field : ℕ) (s : Shape) → shape ≡ Some s → lacks_reference shape field ≡ false → field < s.references
-has_reference None field s e lacks = absurd (none-some s e)
-has_reference (Some t) field s e lacks = let same = ap (λ (x : Shape). x.references) (same_Some t s e) in omega (arith, same, leb-false t.references field lacks)
+has_reference shape field s e lacks = grind (arith, none-some, same_Some, leb-false)
 
 module _ (snapshot : World) (heap : HeapState) (h : KeepsSnapshot snapshot heap.next_birth heap.collector) where
   abbrev c : Collector
@@ -138,7 +128,7 @@ module _ (snapshot : World) (heap : HeapState) (h : KeepsSnapshot snapshot heap.
   snapshot-heap_effect : (who : ℕ) (command : Command) → first_refusal (tests (heap_sight heap) who command) ≡ None
       → KeepsSnapshot snapshot (heap_effect heap who command).state.next_birth (heap_effect heap who command).state.collector
   unfolding heap_effect
-  snapshot-heap_effect who (command.New slot references numbers) e = go (new_group heap references numbers) refl
+  snapshot-heap_effect who (Command.New slot references numbers) e = go (new_group heap references numbers) refl
     where
       go : (made : Option Made) → new_group heap references numbers ≡ made → KeepsSnapshot snapshot (unwrap_or (option_map (with_born heap (own_slot who slot)) made) heap).next_birth (unwrap_or (option_map (with_born heap (own_slot who slot)) made) heap).collector
       go None is = h
@@ -149,34 +139,32 @@ module _ (snapshot : World) (heap : HeapState) (h : KeepsSnapshot snapshot heap.
           snapshot-with_root snapshot (heap.next_birth + 1) (borne snapshot heap.next_birth c shape made h born) (own_slot who slot) (Some made.place)
           (record { leads = λ r f. let to = same_Some made.place r f in (x, subst (λ z. IsPlainAt (borne snapshot heap.next_birth c shape made h born) z x) to plain, first, λ m. kept) })
           (snapshot-borne snapshot heap.next_birth c shape made h born)
-  snapshot-heap_effect who (command.Get slot source field) e =
-      let fails = each_fails (tests (heap_sight heap) who (command.Get slot source field)) e in
+  snapshot-heap_effect who (Command.Get slot source field) e =
+      let fails = each_fails (tests (heap_sight heap) who (Command.Get slot source field)) e in
       let n = fails.1.1.0 in
       let l = fails.1.1.1.0 in
       let (s, is) = not_null (shape_at heap (own_slot who source)) n in
       let f = field_held (own_slot who source) field s is (has_reference (shape_at heap (own_slot who source)) field s is l) in
       snapshot-with_root snapshot heap.next_birth c (own_slot who slot) (loaded_reference c.table (field_of heap (own_slot who source) field)) (loaded_writable (field_of heap (own_slot who source) field) f) h
-  snapshot-heap_effect who (command.Put slot field value) e =
-      let fails = each_fails (tests (heap_sight heap) who (command.Put slot field value)) e in
+  snapshot-heap_effect who (Command.Put slot field value) e =
+      let fails = each_fails (tests (heap_sight heap) who (Command.Put slot field value)) e in
       let n = fails.1.1.0 in
       let l = fails.1.1.1.0 in
       let (s, is) = not_null (shape_at heap (own_slot who slot)) n in
       let f = field_held (own_slot who slot) field s is (has_reference (shape_at heap (own_slot who slot)) field s is l) in
       snapshot-with_reference_stored snapshot heap.next_birth c (field_of heap (own_slot who slot) field) (root_at heap (own_slot who value)) f (root_writable snapshot heap.next_birth c (own_slot who value) h) h
-  snapshot-heap_effect who (command.Copy slot source) e = snapshot-with_root snapshot heap.next_birth c (own_slot who slot) (root_at heap (own_slot who source)) (root_writable snapshot heap.next_birth c (own_slot who source) h) h
-  snapshot-heap_effect who (command.Clear slot) e = snapshot-with_root snapshot heap.next_birth c (own_slot who slot) None (nothing_writable snapshot heap.next_birth c) h
-  snapshot-heap_effect who (command.Read slot index) e = h
-  snapshot-heap_effect who (command.Write slot index number) e =
-      let fails = each_fails (tests (heap_sight heap) who (command.Write slot index number)) e in
+  snapshot-heap_effect who (Command.Copy slot source) e = snapshot-with_root snapshot heap.next_birth c (own_slot who slot) (root_at heap (own_slot who source)) (root_writable snapshot heap.next_birth c (own_slot who source) h) h
+  snapshot-heap_effect who (Command.Clear slot) e = snapshot-with_root snapshot heap.next_birth c (own_slot who slot) None (nothing_writable snapshot heap.next_birth c) h
+  snapshot-heap_effect who (Command.Write slot index number) e =
+      let fails = each_fails (tests (heap_sight heap) who (Command.Write slot index number)) e in
       let n = fails.1.0 in
       let (s, is) = not_null (shape_at heap (own_slot who slot)) n in
       let (y, there, live) = number_held (own_slot who slot) index s is in
       snapshot-with_number_stored snapshot heap.next_birth c (number_field heap (own_slot who slot) index) number y there live h
-  snapshot-heap_effect who (command.Same left right) e = h
-  snapshot-heap_effect who (command.Shape slot) e = h
-  snapshot-heap_effect who (command.Post board slot) e = snapshot-with_root snapshot heap.next_birth c (board_slot board) (root_at heap (own_slot who slot)) (root_writable snapshot heap.next_birth c (own_slot who slot) h) h
-  snapshot-heap_effect who (command.Take slot board) e = snapshot-with_root snapshot heap.next_birth c (own_slot who slot) (root_at heap (board_slot board)) (root_writable snapshot heap.next_birth c (board_slot board) h) h
-  snapshot-heap_effect who command.End e = snapshot-with_session_cleared snapshot heap.next_birth c who h
+  snapshot-heap_effect who (Command.Post board slot) e = snapshot-with_root snapshot heap.next_birth c (board_slot board) (root_at heap (own_slot who slot)) (root_writable snapshot heap.next_birth c (own_slot who slot) h) h
+  snapshot-heap_effect who (Command.Take slot board) e = snapshot-with_root snapshot heap.next_birth c (own_slot who slot) (root_at heap (board_slot board)) (root_writable snapshot heap.next_birth c (board_slot board) h) h
+  snapshot-heap_effect who Command.End e = snapshot-with_session_cleared snapshot heap.next_birth c who h
+  snapshot-heap_effect who command e = h
 
   -- A command keeps the snapshot
   pub snapshot-mutator_step : (who : ℕ) (command : Command) → KeepsSnapshot snapshot (mutator_step heap who command).state.next_birth (mutator_step heap who command).state.collector
@@ -185,10 +173,7 @@ module _ (snapshot : World) (heap : HeapState) (h : KeepsSnapshot snapshot heap.
     where
       go : (refused : Option Refusal) → refusal (heap_sight heap) who command ≡ refused → KeepsSnapshot snapshot (unless_refused refused heap (heap_effect heap who command)).state.next_birth (unless_refused refused heap (heap_effect heap who command)).state.collector
       go (Some refused) e = h
-      go None e =
-          snapshot-heap_effect who command (after (nat_le 8 who) (get_or heap.ended who false) e)
+      go None e = search (arith, snapshot-heap_effect, after, nat_le)
         where
           after : (a b : Bool) → (if a then Some TooManySessions else (if b then Some Ended else first_refusal (tests (heap_sight heap) who command))) ≡ None → first_refusal (tests (heap_sight heap) who command) ≡ None
-          after true b f = absurd (none-some TooManySessions (sym f))
-          after false true f = absurd (none-some Ended (sym f))
-          after false false f = f
+          after a b f = grind (arith, none-some)

@@ -1,18 +1,13 @@
 -- A state that keeps some snapshot keeps one after each start, step, quantum, asking and command: the form in which code calls the laws.
-use Rattle.std.proofs.Common.{◌+◌, inl, inr, true, false, [], sym, ap, subst}
-use Rattle.std.proofs.lemmas.Bool.{cases_Bool}
+use Rattle.std.proofs.{Common.{◌+◌, inl, inr, true, false, [], sym, ap, subst}, lemmas.Bool.cases_Bool}
 use Rattle.mh_model.specs.declared.config.Config.{Config}
 use Rattle.mh_model.specs.Collector.{Collector, is_idle, cycle_start, quantum_start, quantum, collector_step}
-use Rattle.mh_model.specs.Mutator.{HeapState}
-use Rattle.mh_model.specs.View.{in_sweep, heap_view}
-use Rattle.mh_model.specs.Invariant.{IsSteady}
+use Rattle.mh_model.specs.{Mutator.HeapState, View.{in_sweep, heap_view}, Invariant.IsSteady}
 use Rattle.mh_laws.specs.Snapshots.{CollectorsStaySteady, HeapsStayKept}
-use Rattle.mh_laws.proofs.bounds.StepsOfACycle.{step-idle}
-use Rattle.mh_laws.proofs.snapshots.CycleStarts.{snapshot-started}
+use Rattle.mh_laws.proofs.{bounds.StepsOfACycle.step-idle, snapshots.CycleStarts.snapshot-started}
 use Rattle.mh_laws.proofs.snapshots.CycleSteps.{continues-collector_step, snapshot-counted}
 use Rattle.mh_laws.proofs.snapshots.SessionCommands.{snapshot-mutator_step}
-use Rattle.mh_laws.proofs.snapshots.RunningCycles.{keeping-quantum, keeping-first, linked}
-use Rattle.mh_laws.proofs.costs.QuantumStarts.{begins}
+use Rattle.mh_laws.proofs.{snapshots.RunningCycles.{keeping-quantum, keeping-first, linked}, costs.QuantumStarts.begins}
 
 start-steady : (config : Config) (c : Collector) → IsSteady c → IsSteady (quantum_start config c)
 start-steady config c (snapshot, n, keeps) = elim (begins config c).case [

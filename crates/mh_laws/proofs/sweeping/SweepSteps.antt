@@ -1,20 +1,13 @@
 -- The passage from marking to the sweep, at which all promises have been met; sweep steps, which free nothing that is kept; and the passage to defragmentation.
-use Rattle.std.proofs.Common.{◌≡◌, ℕ, ◌<◌, ◌≤◌, true, inl, inr, List, [], ◌∷◌, length, get_or, Option, Some, None, option_and_then, refl, sym, ap, ◌∙◌, subst, arith}
-use Rattle.std.proofs.lemmas.Bool.{false≢true, leb-true}
-use Rattle.std.proofs.lemmas.Option.{none-some, same_Some}
-use Rattle.mh_model.specs.declared.cycle.Phase.TheVariants.{Mark, Sweep, Defrag}
-use Rattle.mh_model.specs.World.{World}
-use Rattle.mh_model.specs.Pages.{Page, page_number, page_at, block_at}
-use Rattle.mh_model.specs.Table.{Block, resolve}
-use Rattle.mh_model.specs.Collector.{Collector, with_phase, after_mark, sweep_step, is_past, is_idle}
-use Rattle.mh_model.specs.Mutator.{in_roots_or_mark}
-use Rattle.mh_model.specs.View.{in_sweep}
-use Rattle.mh_model.specs.Snapshot.{IsKept}
+use Rattle.std.proofs.Common.{◌≡◌, ℕ, ◌<◌, true, inl, inr, List, [], ◌∷◌, length, get_or, Some, None, refl, sym, ap, ◌∙◌, subst, arith}
+use Rattle.std.proofs.{lemmas.Bool.{false≢true, leb-true}, lemmas.Option.{none-some, same_Some}}
+use Rattle.mh_model.specs.{declared.cycle.Phase.TheVariants.{Mark, Sweep, Defrag}, World.World}
+use Rattle.mh_model.specs.{Pages.{page_number, block_at}, Table.{Block, resolve}}
+use Rattle.mh_model.specs.{Collector.{Collector, with_phase, after_mark, sweep_step, is_past}, Mutator.in_roots_or_mark}
+use Rattle.mh_model.specs.{View.in_sweep, Snapshot.IsKept}
 use Rattle.mh_model.specs.Invariant.{IsIn, IsPlainAt, in_trace, in_defrag, IsSound, IsFromRoot, KeepsSnapshot}
-use Rattle.mh_laws.proofs.marking.MarkingPaths.{nothing_promised}
-use Rattle.mh_laws.proofs.marking.BlockChanges.{resolve-live, not_sweep}
-use Rattle.mh_laws.proofs.marking.SameTable.{snapshot-turned}
-use Rattle.mh_laws.proofs.marking.MarkSteps.{traces, runs, leads}
+use Rattle.mh_laws.proofs.{marking.MarkingPaths.nothing_promised, marking.BlockChanges.{resolve-live, not_sweep}}
+use Rattle.mh_laws.proofs.{marking.SameTable.snapshot-turned, marking.MarkSteps.{traces, runs, leads}}
 use Rattle.mh_laws.proofs.sweeping.SweptTables.{IsSwept, swept-is}
 use Rattle.mh_table_laws.proofs.Lists.{below_length}
 
@@ -91,19 +84,7 @@ snapshot-after_mark snapshot n c marks no_root h = go c.grey refl
   where
     go : (grey : List ℕ) → c.grey ≡ grey → KeepsSnapshot snapshot n (after_mark c grey)
     go [] is = snapshot-sweeping snapshot n c marks is no_root h
-    go (g ∷ grey) is = snapshot-turned c c.slots Mark 0 c.grey c.is_asked c.quanta (record {
-      enters = λ s. absurd (false≢true s);
-      leaves = λ no s. absurd (not_sweep c.phase marks s);
-      roots = h.sound.roots;
-      slots = h.sound.slots;
-      listed = λ q is. is;
-      quiet = λ no. absurd (false≢true (sym no));
-      traces = λ t. traces c.phase marks;
-      left = λ t q x is e. inl is;
-      swept = λ t. absurd (false≢true t);
-      marked = λ t. absurd (false≢true t);
-      dense = λ t. absurd (false≢true t);
-    }) snapshot n (record {
+    go (g ∷ grey) is = snapshot-turned c c.slots Mark 0 c.grey c.is_asked c.quanta (grind (arith, false≢true, not_sweep, traces)) snapshot n (record {
       runs = λ r. runs c.phase marks;
       marks = λ t. marks;
       from_root = λ t q x e from. absurd (no_root q from);
@@ -137,10 +118,7 @@ module _ (snapshot : World) (n : ℕ) (c : Collector) (sweeps : c.phase ≡ Swee
 
   -- a reference of a plain block leads straight to where it leads, before and after the step
   straight_now : (q : ℕ) (x : Block) → IsPlainAt c q x → (i r : ℕ) → get_or x.references i None ≡ Some r → resolve c.table r ≡ r
-  straight_now q x plain i r e = elim (h.sound.straight (ap in_trace sweeps) q x plain.there (plain.surviving in_it)) [
-    | inl is ↦ absurd (subst (IsIn q) no_grey_now is)
-    | inr is ↦ is i r e
-  ]
+  straight_now q x plain i r e = grind (arith, in_it, no_grey_now)
 
   straight_then : (q : ℕ) (x : Block) → IsPlainAt c q x → (i r : ℕ) → get_or x.references i None ≡ Some r → resolve swept.table r ≡ r
   straight_then q x plain i r e =
@@ -212,24 +190,10 @@ snapshot-after_sweep snapshot n c sweeps past h = snapshot-turned c c.slots Defr
   swept = λ t. absurd (false≢true t);
   marked = λ t. all_marked;
   dense = λ t q target x e f. absurd (none-some target (sym (h.sound.original (ap in_trace sweeps) q x e (all_marked q x e)) ∙ f));
-}) snapshot n (record {
-  runs = λ r. ap is_idle sweeps;
-  marks = λ t. absurd (false≢true t);
-  from_root = λ t. absurd (false≢true t);
-  from_grey = λ t. absurd (false≢true t);
-  slots = λ t. absurd (false≢true t);
-}) h
+}) snapshot n (grind (arith, runs, false≢true)) h
   where
     page_inside : (q : ℕ) (x : Block) → block_at c.table q ≡ Some x → page_number q < length c.table
-    page_inside q x e = go (page_at c.table (page_number q)) refl e
-      where
-        go : (content : Option (Page Block)) → page_at c.table (page_number q) ≡ content → option_and_then (Rattle.mh_model.specs.Pages.block_in (Rattle.mh_model.specs.Pages.slot_number q)) content ≡ Some x → page_number q < length c.table
-        go None is f = absurd (none-some x f)
-        go (Some page) is f = below_length c.table (page_number q) page is
+    page_inside q x e = grind (arith, none-some, below_length)
 
     all_marked : (q : ℕ) (x : Block) → block_at c.table q ≡ Some x → x.stamp ≡ c.cycle
-    all_marked q x e =
-        let a = page_inside q x e in
-        let b : length c.table ≤ page_number c.cursor = leb-true (length c.table) (page_number c.cursor) past in
-        let below : q < c.cursor = omega (arith, a, b) in
-        h.sound.swept (ap in_sweep sweeps) q x e below
+    all_marked q x e = search (arith, page_inside, leb-true)

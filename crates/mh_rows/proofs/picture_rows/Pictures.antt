@@ -1,21 +1,13 @@
 -- What deeds change of a picture, the pictures of runs, and their dumps.
 use Rattle.std.proofs.Common.{[], Bool, false, List, None, option_map, Option, refl, Some, true, ℕ, ◌∷◌, ◌≡◌}
-use Rattle.mh_model.specs.declared.command.Command.TheVariants.{Clear, New, Put}
-use Rattle.mh_model.specs.declared.command.Event.{Event}
-use Rattle.mh_model.specs.declared.config.Config.{Config}
-use Rattle.mh_model.specs.declared.cycle.Phase.TheVariants.{Idle, Roots, Mark}
-use Rattle.mh_model.specs.declared.deed.Deed.TheVariants as deed
-use Rattle.mh_model.specs.declared.deed.Edge.{Edge}
-use Rattle.mh_model.specs.declared.deed.Fate.TheVariants as fate
-use Rattle.mh_model.specs.declared.deed.PartName.{PartName}
-use Rattle.mh_model.specs.declared.deed.Tier.TheVariants as tier
-use Rattle.mh_model.specs.declared.dump.DumpItem.TheVariants as item
-use Rattle.mh_model.specs.Configs.{configured}
-use Rattle.mh_model.specs.Pages.{Page}
-use Rattle.mh_model.specs.Machine.{first_machine}
+use Rattle.mh_model.specs.{declared.command.Command.TheVariants.{Clear, New, Put}, declared.command.Event.Event}
+use Rattle.mh_model.specs.{declared.config.Config.Config, declared.cycle.Phase.TheVariants.{Idle, Roots, Mark}}
+use Rattle.mh_model.specs.{declared.deed.Deed.Deed, declared.deed.Edge.Edge, declared.deed.Fate.Fate}
+use Rattle.mh_model.specs.{declared.deed.PartName.PartName, declared.deed.Tier.Tier, declared.dump.DumpItem.DumpItem}
+use Rattle.mh_model.specs.{Configs.configured, Pages.Page, Machine.first_machine}
 use Rattle.mh_model.specs.Deeds.{step_deeds, deeds_of_steps, quantum_deeds, command_deeds, account_of}
 use Rattle.mh_table_laws.specs.TableMaps.{table_map}
-use Rattle.mh_picture_laws.specs.Picture.{Drawn, Picture, drawn_of, empty_picture, drawn, drawn_all, accounts_of, drawn_run, pictured_dump}
+use Rattle.mh_tell_laws.specs.Picture.{Drawn, Picture, drawn_of, empty_picture, drawn, drawn_all, accounts_of, drawn_run, pictured_dump}
 use Rattle.mh_rows.proofs.rows.Worked.{a, quantum_asked, session, start, worked}
 
 -- a row that unfolds this name computes
@@ -51,49 +43,49 @@ edge target is_shaded = record { reference = Some 128; target = Some target; is_
 
 -- a block that a reference leads to is marked, and its place comes last in the grey list
 -- refuses: a shaded place goes to the front; what a reference named is shaded
-pub shaded_last : drawn (picture (page false (block 0 3 None) (block 1 2 None)) None None (0 ∷ [])) (deed.Reference 0 (edge 1 true)) ≡ picture (page false (block 0 3 None) (block 1 3 None)) None None (0 ∷ 1 ∷ [])
+pub shaded_last : drawn (picture (page false (block 0 3 None) (block 1 2 None)) None None (0 ∷ [])) (Deed.Reference 0 (edge 1 true)) ≡ picture (page false (block 0 3 None) (block 1 3 None)) None None (0 ∷ 1 ∷ [])
 shaded_last = refl
 
 -- nothing changes if the edge says that the block was marked before
 -- refuses: each target is shaded
-pub not_shaded : drawn (picture (page false (block 0 3 None) (block 1 3 None)) None None (0 ∷ [])) (deed.Root 5 (edge 1 false)) ≡ picture (page false (block 0 3 None) (block 1 3 None)) None None (0 ∷ [])
+pub not_shaded : drawn (picture (page false (block 0 3 None) (block 1 3 None)) None None (0 ∷ [])) (Deed.Root 5 (edge 1 false)) ≡ picture (page false (block 0 3 None) (block 1 3 None)) None None (0 ∷ [])
 not_shaded = refl
 
 -- the first grey place is taken off the list
 -- refuses: two places are taken; none is taken
-pub first_grey_taken : drawn (picture None None None (1 ∷ 2 ∷ 65 ∷ [])) (deed.Mark 1 (name 1)) ≡ picture None None None (2 ∷ 65 ∷ [])
+pub first_grey_taken : drawn (picture None None None (1 ∷ 2 ∷ 65 ∷ [])) (Deed.Mark 1 (name 1)) ≡ picture None None None (2 ∷ 65 ∷ [])
 first_grey_taken = refl
 
 -- what a sweep frees is no more there, a block or a forwarder, and what it keeps is as it was
 -- refuses: a forwarder stays after the sweep; a freed block stays
-pub swept_slots : drawn_all (picture (page false (block 0 2 None) (block 1 2 (Some 3))) (page false (block 4 3 None) None) None []) (deed.Sweep 0 (fate.Freed (name 0)) ∷ deed.Sweep 1 (fate.FreedForwarder 3) ∷ deed.Sweep 2 fate.Empty ∷ deed.Sweep 64 (fate.Kept (name 4)) ∷ [])
+pub swept_slots : drawn_all (picture (page false (block 0 2 None) (block 1 2 (Some 3))) (page false (block 4 3 None) None) None []) (Deed.Sweep 0 (Fate.Freed (name 0)) ∷ Deed.Sweep 1 (Fate.FreedForwarder 3) ∷ Deed.Sweep 2 Fate.Empty ∷ Deed.Sweep 64 (Fate.Kept (name 4)) ∷ [])
     ≡ picture (page false None None) (page false (block 4 3 None) None) None []
 swept_slots = refl
 
 -- a page without blocks is freed, one is flagged and one unflagged
 -- refuses: a freed page keeps its class; a page is never unflagged
-pub judged_pages : drawn_all (picture (page false None None) (page false (block 4 3 None) None) (page true (block 5 3 None) (block 6 3 None)) []) (deed.FreePage 0 ∷ deed.FlagPage 1 ∷ deed.UnflagPage 2 ∷ [])
+pub judged_pages : drawn_all (picture (page false None None) (page false (block 4 3 None) None) (page true (block 5 3 None) (block 6 3 None)) []) (Deed.FreePage 0 ∷ Deed.FlagPage 1 ∷ Deed.UnflagPage 2 ∷ [])
     ≡ picture None (page true (block 4 3 None) None) (page false (block 5 3 None) (block 6 3 None)) []
 judged_pages = refl
 
 -- a moved block is at its new place, and a forwarder with all else that it had where it was
 -- refuses: a move leaves no forwarder; a forwarder leads to its own place
-pub moved_forwarder : drawn (picture (page false (block 0 3 None) None) (page true None (block 7 3 None)) None []) (deed.Move 65 1 (name 7) 64) ≡ picture (page false (block 0 3 None) (block 7 3 None)) (page true None (block 7 3 (Some 1))) None []
+pub moved_forwarder : drawn (picture (page false (block 0 3 None) None) (page true None (block 7 3 None)) None []) (Deed.Move 65 1 (name 7) 64) ≡ picture (page false (block 0 3 None) (block 7 3 None)) (page true None (block 7 3 (Some 1))) None []
 moved_forwarder = refl
 
 -- a new part is marked, on a free page that is then of its class and unflagged
 -- refuses: a new part isn't marked; a page takes a class 1 smaller
-pub made_marked : drawn (picture None None None (0 ∷ [])) (deed.Make 65 (name 9) 64 (record { references = 0; numbers = 60 }) tier.Fresh) ≡ picture None (page false None (block 9 3 None)) None (0 ∷ [])
+pub made_marked : drawn (picture None None None (0 ∷ [])) (Deed.Make 65 (name 9) 64 (record { references = 0; numbers = 60 }) Tier.Fresh) ≡ picture None (page false None (block 9 3 None)) None (0 ∷ [])
 made_marked = refl
 
 -- a page in use keeps its flag under a new part
 -- refuses: a new part is drawn with no fields
-pub made_sparse : drawn (picture (page true (block 0 3 None) None) None None []) (deed.Make 1 (name 9) 64 (record { references = 0; numbers = 60 }) tier.Sparse) ≡ picture (page true (block 0 3 None) (block 9 3 None)) None None []
+pub made_sparse : drawn (picture (page true (block 0 3 None) None) None None []) (Deed.Make 1 (name 9) 64 (record { references = 0; numbers = 60 }) Tier.Sparse) ≡ picture (page true (block 0 3 None) (block 9 3 None)) None None []
 made_sparse = refl
 
 -- a cycle that ends leaves pages, stamps and the grey list as they were
 -- refuses: an end leaves the phase
-pub ended_cycle : drawn (picture (page true (block 0 3 None) None) None None []) deed.End ≡ record (picture (page true (block 0 3 None) None) None None []) { phase = Idle }
+pub ended_cycle : drawn (picture (page true (block 0 3 None) None) None None []) Deed.End ≡ record (picture (page true (block 0 3 None) None) None None []) { phase = Idle }
 ended_cycle = refl
 
 -- Runs -------------------------------------------------------------------------------------------
@@ -130,6 +122,6 @@ command_before_its_quantum = refl
 -- the dump of a picture with a moved block
 -- refuses: a forwarder is dumped as a block; a kept block is taken away
 pub dumped_from_a_run : option_map pictured_dump (drawn_under 4 1000 0 0 (a (New 0 0 60) ∷ a (New 1 0 60) ∷ a (New 2 0 60) ∷ a (New 3 0 60) ∷ a (New 4 0 60) ∷ a (Clear 1) ∷ start ∷ quantum_asked ∷ []))
-    ≡ Some (item.Page 0 64 false ∷ item.Block 0 0 0 ∷ item.Block 1 4 0 ∷ item.Block 2 2 0 ∷ item.Block 3 3 0 ∷ item.Page 1 64 true ∷ item.Forwarder 0 0 1 ∷ [])
+    ≡ Some (DumpItem.Page 0 64 false ∷ DumpItem.Block 0 0 0 ∷ DumpItem.Block 1 4 0 ∷ DumpItem.Block 2 2 0 ∷ DumpItem.Block 3 3 0 ∷ DumpItem.Page 1 64 true ∷ DumpItem.Forwarder 0 0 1 ∷ [])
 unfolding accounted
 dumped_from_a_run = refl

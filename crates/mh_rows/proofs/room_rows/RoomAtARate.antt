@@ -1,9 +1,8 @@
 -- What programs open that keep to a rate, and a heap with room for them.
 use Rattle.std.proofs.Common.{◌≡◌, ℕ, ◌+◌, ◌*◌, min, if◌then◌else◌, ◌==◌, refl, lit≤, arith}
 use Rattle.std.specs.Int.{div_ceil}
-use Rattle.mh_model.specs.declared.config.Config.{Config}
-use Rattle.mh_model.specs.declared.config.Rules.TheVariants.{Second}
-use Rattle.mh_room_laws.specs.Rates.{interval_units, opens_at_rate, HasRoomAtRate}
+use Rattle.mh_model.specs.declared.config.{Config.Config, Rules.TheVariants.Second}
+use Rattle.mh_size_laws.specs.Rates.{interval_units, opens_at_rate, HasRoomAtRate}
 
 -- twenty blocks of 8 words in each thousand units
 abbrev nodes : ℕ → ℕ → ℕ

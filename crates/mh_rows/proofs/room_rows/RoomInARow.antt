@@ -1,14 +1,11 @@
 -- A run that has room, and the same in a page less: what its intervals open together would fit there, and what each opens by itself doesn't.
 use Rattle.std.proofs.Common.{◌≡◌, ℕ, List, [], ◌∷◌, ◌++◌, map, refl, lit≤}
 use Rattle.std.specs.List.{flat_map}
-use Rattle.mh_model.specs.declared.command.Command.TheVariants.{New}
-use Rattle.mh_model.specs.declared.command.Event.{Event}
-use Rattle.mh_model.specs.declared.config.Config.{Config}
-use Rattle.mh_model.specs.declared.config.Rules.TheVariants.{Second}
-use Rattle.mh_model.specs.Machine.{first_machine}
-use Rattle.mh_model.specs.Openings.{opens_at_most, free_of}
+use Rattle.mh_model.specs.{declared.command.Command.TheVariants.New, declared.command.Event.Event}
+use Rattle.mh_model.specs.{declared.config.Config.Config, declared.config.Rules.TheVariants.Second}
+use Rattle.mh_model.specs.{Machine.first_machine, Openings.{opens_at_most, free_of}}
 use Rattle.mh_model.specs.Intervals.{cycle_ends, CyclesTakeAtMost}
-use Rattle.mh_room_laws.specs.Room.{first_start, later_intervals, opened_in_a_row, HasRoomInARow}
+use Rattle.mh_size_laws.specs.Room.{first_start, later_intervals, opened_in_a_row, HasRoomInARow}
 use Rattle.mh_rows.proofs.rows.Worked.{a, quantum_asked, start, worked}
 
 -- Four blocks fill a page. A cycle is asked for, and the first quantum has all of it. The fifth block opens a page, which a second cycle flags. So the sixth

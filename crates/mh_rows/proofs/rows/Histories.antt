@@ -2,19 +2,13 @@
 use Rattle.std.proofs.Common.{◌≡◌, ◌==◌, ap, arith, codes, List, [], ◌∷◌, length, map, take, lit≤, refl, Bool, true, false, get_or, suc, zero, ℕ}
 use Rattle.std.proofs.lemmas.Bool.{ne_eqb}
 use Rattle.mh_model.specs.declared.command.Command.TheVariants.{Clear, New, Write, Post, Take, Shape}
-use Rattle.mh_model.specs.declared.command.Event.{Event}
-use Rattle.mh_model.specs.declared.history.Entry.{Entry}
+use Rattle.mh_model.specs.{declared.command.Event.Event, declared.history.Entry.Entry}
 use Rattle.mh_model.specs.declared.history.Measured.{Measured}
-use Rattle.mh_model.specs.declared.history.Verdict.TheVariants.{Refused, Legal, FirstBad}
-use Rattle.mh_model.specs.declared.reply.Reply.{Reply}
-use Rattle.mh_model.specs.declared.reply.Reply.TheVariants as reply
-use Rattle.mh_model.specs.declared.reply.Refusal.TheVariants.{Null}
-use Rattle.mh_model.specs.History.{IsLegal, IsFirstBadOf, owner_of, owned_by}
+use Rattle.mh_model.specs.{declared.history.Verdict.TheVariants.{Refused, Legal, FirstBad}, declared.reply.Reply.Reply}
+use Rattle.mh_model.specs.{declared.reply.Refusal.TheVariants.Null, History.{IsLegal, IsFirstBadOf, owner_of, owned_by}}
 use Rattle.mh_model.specs.HistoryTexts.{history_reading, IsChecked, IsLegalRecord, machine_record}
-use Rattle.mh_model.specs.Limits.{most_entries}
-use Rattle.mh_model.specs.Machine.{first_machine, machine_replies}
-use Rattle.mh_model.specs.Races.{HasTheCalls, BeginsTheCalls, IsRaced, IsRaceBegun}
-use Rattle.mh_model.specs.Script.{Meaning}
+use Rattle.mh_model.specs.{Limits.most_entries, Machine.{first_machine, machine_replies}}
+use Rattle.mh_model.specs.{Races.{HasTheCalls, BeginsTheCalls, IsRaced, IsRaceBegun}, Script.Meaning}
 use Rattle.mh_rows.proofs.rows.Worked.{a, b, four_pages, session, stat, worked}
 
 abbrev entry : Event → Reply → Entry
@@ -22,32 +16,32 @@ entry event reply = record { event = event; reply = reply }
 
 -- an object that the one session posts and the other takes, and what the other is answered of its shape
 abbrev posted : Reply → List Entry
-posted told = entry (a (New 0 0 1)) reply.Done ∷ entry (a (Write 0 0 5)) reply.Done ∷ entry (a (Post 0 0)) reply.Done ∷ entry (b (Take 0 0)) reply.Done ∷ entry (b (Shape 0)) told ∷ []
+posted told = entry (a (New 0 0 1)) Reply.Done ∷ entry (a (Write 0 0 5)) Reply.Done ∷ entry (a (Post 0 0)) Reply.Done ∷ entry (b (Take 0 0)) Reply.Done ∷ entry (b (Shape 0)) told ∷ []
 
 -- Legal ------------------------------------------------------------------------------------------
 
 -- a history of two sessions is legal
 -- refuses: the heap's Shape gives fields the other way round; a number is tested by references
-pub legal : IsLegal four_pages (posted (reply.Shape (record { references = 0; numbers = 1 })))
+pub legal : IsLegal four_pages (posted (Reply.Shape (record { references = 0; numbers = 1 })))
 unfolding worked
 legal = record { few = lit≤ tt; replies = refl }
 
 abbrev is_shape : Reply → Bool
-is_shape (reply.Shape shape) = true
+is_shape (Reply.Shape shape) = true
 is_shape _ = false
 
 told_of : List Reply → Bool
-told_of replies = is_shape (get_or replies 4 reply.Done)
+told_of replies = is_shape (get_or replies 4 Reply.Done)
 
 -- the history with another last reply is not legal
 -- refuses: every short history is legal
-pub illegal : ¬ IsLegal four_pages (posted (reply.Refused Null))
+pub illegal : ¬ IsLegal four_pages (posted (Reply.Refused Null))
 unfolding worked told_of
 illegal legal = let bad : false ≡ true = ap told_of legal.replies in cc
 
 -- the last entry of that history is the first bad one
 -- refuses: the first bad entry is counted from 0; a number is tested by references
-pub bad_at_last : IsFirstBadOf (IsLegal four_pages) (posted (reply.Refused Null)) 5
+pub bad_at_last : IsFirstBadOf (IsLegal four_pages) (posted (Reply.Refused Null)) 5
 unfolding worked
 bad_at_last = record { counted = lit≤ tt; within = lit≤ tt; before = record { few = lit≤ tt; replies = refl }; bad = illegal }
 
@@ -111,18 +105,18 @@ good_entry judged = judged.bad (record { few = lit≤ tt; replies = refl })
 -- refuses: the first bad entry may have bad ones before it
 pub second_bad_entry : IsChecked four_pages (codes "history 1\ns0 clear 0 = yes\ns0 clear 0 = no\n") (FirstBad 2) → ⊥
 unfolding history_reading worked
-second_bad_entry judged = let same : reply.Yes ∷ [] ≡ reply.Done ∷ [] = judged.before.replies in cc
+second_bad_entry judged = let same : Reply.Yes ∷ [] ≡ Reply.Done ∷ [] = judged.before.replies in cc
 
 -- Owners -----------------------------------------------------------------------------------------
 
 -- the entries of the first session
 -- refuses: a seat owns the entries of the others
-pub owned_by_first : owned_by (λ (entry : Entry). owner_of entry.event) 0 (posted reply.Done) ≡ take 3 (posted reply.Done)
+pub owned_by_first : owned_by (λ (entry : Entry). owner_of entry.event) 0 (posted Reply.Done) ≡ take 3 (posted Reply.Done)
 owned_by_first = refl
 
 -- the desk owns no entry of a session
 -- refuses: a seat owns the entries of the others
-pub owned_by_desk : owned_by (λ (entry : Entry). owner_of entry.event) 8 (posted reply.Done) ≡ []
+pub owned_by_desk : owned_by (λ (entry : Entry). owner_of entry.event) 8 (posted Reply.Done) ≡ []
 owned_by_desk = refl
 
 -- the desk owns the controls and the commands of sessions past the eighth, and each session its own
@@ -134,7 +128,7 @@ owned_by_the_desk = refl
 
 -- the same commands in a script
 abbrev two_sessions : Meaning
-two_sessions = record { config = four_pages; events = map (λ (entry : Entry). entry.event) (posted reply.Done) }
+two_sessions = record { config = four_pages; events = map (λ (entry : Entry). entry.event) (posted Reply.Done) }
 
 abbrev told : Event → Reply → Measured
 told event answer = record { entry = entry event answer; mutator = 1; collector = 0 }
@@ -148,12 +142,10 @@ second_is seat = ne_eqb 1 (suc (suc seat)) (λ e. omega (arith, e))
 
 -- the first session's calls, and then those of the second
 abbrev in_turn : List Measured
-in_turn = map (λ (entry : Entry). told entry.event entry.reply) (posted (reply.Shape (record { references = 0; numbers = 1 })))
+in_turn = map (λ (entry : Entry). told entry.event entry.reply) (posted (Reply.Shape (record { references = 0; numbers = 1 })))
 
 in_turn_calls : HasTheCalls two_sessions.events in_turn
-in_turn_calls zero = refl
-in_turn_calls (suc zero) = refl
-in_turn_calls (suc (suc seat)) = rw (first_is seat) (rw (second_is seat) refl)
+in_turn_calls is = grind (arith, first_is, second_is)
 
 -- the second session may find what the first has posted
 -- refuses: a race writes the first version; a race is under the first rules
@@ -163,12 +155,10 @@ one_after_the_other = record { entries = in_turn; legal = record { few = lit≤ 
 
 -- the same calls, the second session's among those of the first
 abbrev mixed : List Measured
-mixed = told (a (New 0 0 1)) reply.Done ∷ told (b (Take 0 0)) reply.Done ∷ told (a (Write 0 0 5)) reply.Done ∷ told (b (Shape 0)) (reply.Refused Null) ∷ told (a (Post 0 0)) reply.Done ∷ []
+mixed = told (a (New 0 0 1)) Reply.Done ∷ told (b (Take 0 0)) Reply.Done ∷ told (a (Write 0 0 5)) Reply.Done ∷ told (b (Shape 0)) (Reply.Refused Null) ∷ told (a (Post 0 0)) Reply.Done ∷ []
 
 mixed_calls : HasTheCalls two_sessions.events mixed
-mixed_calls zero = refl
-mixed_calls (suc zero) = refl
-mixed_calls (suc (suc seat)) = rw (first_is seat) (rw (second_is seat) refl)
+mixed_calls is = grind (arith, first_is, second_is)
 
 -- the second session may find nothing, if its calls came earlier
 -- refuses: all calls are in the order of the script
@@ -178,22 +168,22 @@ one_among_the_other = record { entries = mixed; legal = record { few = lit≤ tt
 
 -- the calls of a session stay in the script's order
 -- refuses: only the numbers of calls count
-pub calls_exchanged : ¬ HasTheCalls two_sessions.events (told (a (Write 0 0 5)) (reply.Refused Null) ∷ told (a (New 0 0 1)) reply.Done ∷ told (a (Post 0 0)) reply.Done ∷ told (b (Take 0 0)) reply.Done ∷ told (b (Shape 0)) (reply.Refused Null) ∷ [])
+pub calls_exchanged : ¬ HasTheCalls two_sessions.events (told (a (Write 0 0 5)) (Reply.Refused Null) ∷ told (a (New 0 0 1)) Reply.Done ∷ told (a (Post 0 0)) Reply.Done ∷ told (b (Take 0 0)) Reply.Done ∷ told (b (Shape 0)) (Reply.Refused Null) ∷ [])
 calls_exchanged calls = let bad : a (Write 0 0 5) ∷ a (New 0 0 1) ∷ a (Post 0 0) ∷ [] ≡ a (New 0 0 1) ∷ a (Write 0 0 5) ∷ a (Post 0 0) ∷ [] = calls 0 in cc
 
 -- no call is left out
 -- refuses: a race may lack calls
-pub call_left_out : ¬ HasTheCalls two_sessions.events (told (a (New 0 0 1)) reply.Done ∷ told (a (Write 0 0 5)) reply.Done ∷ told (a (Post 0 0)) reply.Done ∷ told (b (Take 0 0)) reply.Done ∷ [])
+pub call_left_out : ¬ HasTheCalls two_sessions.events (told (a (New 0 0 1)) Reply.Done ∷ told (a (Write 0 0 5)) Reply.Done ∷ told (a (Post 0 0)) Reply.Done ∷ told (b (Take 0 0)) Reply.Done ∷ [])
 call_left_out calls = let bad : b (Take 0 0) ∷ [] ≡ b (Take 0 0) ∷ b (Shape 0) ∷ [] = calls 1 in cc
 
 -- a seat without calls in the script makes none
 -- refuses: the desk may have other calls
-pub call_of_the_desk : ¬ HasTheCalls two_sessions.events (told (session 8 (Shape 0)) (reply.Refused Null) ∷ in_turn)
+pub call_of_the_desk : ¬ HasTheCalls two_sessions.events (told (session 8 (Shape 0)) (Reply.Refused Null) ∷ in_turn)
 call_of_the_desk calls = let bad : session 8 (Shape 0) ∷ [] ≡ [] = calls 8 in cc
 
 -- a session that stopped has made the first of its calls
 -- refuses: the last calls are made first
-pub begun_calls : BeginsTheCalls two_sessions.events (told (b (Take 0 0)) reply.Done ∷ told (a (New 0 0 1)) reply.Done ∷ [])
+pub begun_calls : BeginsTheCalls two_sessions.events (told (b (Take 0 0)) Reply.Done ∷ told (a (New 0 0 1)) Reply.Done ∷ [])
 begun_calls zero = (a (Write 0 0 5) ∷ a (Post 0 0) ∷ [], refl)
 begun_calls (suc zero) = (b (Shape 0) ∷ [], refl)
 begun_calls (suc (suc seat)) = ([], rw (first_is seat) (rw (second_is seat) refl))
@@ -203,7 +193,7 @@ begun_calls (suc (suc seat)) = ([], rw (first_is seat) (rw (second_is seat) refl
 pub race_begun : IsRaceBegun two_sessions (codes "history 2 rules 2 4 209 0 0\ns1 take 0 0 = ok units 1 0\ns0 ne")
 unfolding machine_record worked
 race_begun = record {
-  entries = told (b (Take 0 0)) reply.Done ∷ told (a (New 0 0 1)) reply.Done ∷ [];
+  entries = told (b (Take 0 0)) Reply.Done ∷ told (a (New 0 0 1)) Reply.Done ∷ [];
   legal = record { few = lit≤ tt; same = refl };
   calls = begun_calls;
   rest = codes "w 0 0 1 = ok units 1 0\n";
@@ -212,5 +202,5 @@ race_begun = record {
 
 -- a later call is not made without those before it
 -- refuses: any of the calls may be made
-pub later_call_alone : ¬ BeginsTheCalls two_sessions.events (told (b (Shape 0)) (reply.Refused Null) ∷ [])
+pub later_call_alone : ¬ BeginsTheCalls two_sessions.events (told (b (Shape 0)) (Reply.Refused Null) ∷ [])
 later_call_alone calls = let bad : b (Shape 0) ∷ (calls 1).0 ≡ b (Take 0 0) ∷ b (Shape 0) ∷ [] = (calls 1).1 in cc

@@ -1,12 +1,9 @@
 -- Tables with a page or a block changed, forwarders, and what is found in a batch of places.
-use Rattle.std.proofs.Common.{[], ap, Bool, false, List, map, None, Option, option_and_then, option_map, refl, Some, suc, sym, true, zero, ℕ, ◌∷◌, ◌≡◌}
+use Rattle.std.proofs.Common.{[], Bool, false, List, map, None, Option, option_and_then, option_map, refl, Some, sym, true, ℕ, ◌∷◌, ◌≡◌, arith}
 use Rattle.std.proofs.lemmas.Option.{none-some, same_Some}
-use Rattle.mh_model.specs.declared.command.Command.TheVariants.{Clear, New, Put}
-use Rattle.mh_model.specs.declared.command.Event.{Event}
-use Rattle.mh_model.specs.declared.config.Config.{Config}
-use Rattle.mh_model.specs.declared.cycle.Phase.{Phase}
-use Rattle.mh_model.specs.declared.cycle.Phase.TheVariants.{Idle, Roots, Sweep, Defrag}
-use Rattle.mh_model.specs.Configs.{configured}
+use Rattle.mh_model.specs.{declared.command.Command.TheVariants.{Clear, New, Put}, declared.command.Event.Event}
+use Rattle.mh_model.specs.{declared.config.Config.Config, declared.cycle.Phase.Phase}
+use Rattle.mh_model.specs.{declared.cycle.Phase.TheVariants.{Idle, Roots, Sweep, Defrag}, Configs.configured}
 use Rattle.mh_model.specs.Machine.{first_machine, machine_after}
 use Rattle.mh_model.specs.Pages.{block_at, block_in, class_at, count_at, flag_at, Page, page_at, page_number, slot_number, Table, with_flag, with_released}
 use Rattle.mh_model.specs.Collector.{collector_step, first_collector, moved_table, step_cost, steps}
@@ -96,12 +93,7 @@ abbrev with_forwarder : Table Block
 with_forwarder = one_page (block 6 None) (block 6 (Some 0))
 
 no_forwarder : (second : Option Block) → option_and_then (λ (b : Block). b.forward) second ≡ None → (number slot : ℕ) → option_and_then (λ (b : Block). b.forward) (option_and_then (block_in slot) (page_at (one_page (block 6 None) second) number)) ≡ None
-no_forwarder second none zero zero = refl
-no_forwarder second none zero (suc zero) = refl
-no_forwarder second none zero (suc (suc zero)) = none
-no_forwarder second none zero (suc (suc (suc zero))) = refl
-no_forwarder second none zero (suc (suc (suc (suc slot)))) = refl
-no_forwarder second none (suc number) slot = refl
+no_forwarder second none number slot = grind arith
 
 -- a forwarder is new if its block was none, and if no block was at its place
 pub made_since : ForwardersAreNew (one_page (block 6 None) (block 6 None)) with_forwarder × ForwardersAreNew (one_page (block 6 None) None) with_forwarder
@@ -112,12 +104,7 @@ pub stamped_anew_and_kept : ((place : ℕ) (x : Block) → block_at with_forward
 stamped_anew_and_kept = (λ place x e. stamped x (page_number place) (slot_number place) e, λ new. none-some 0 (sym (new 2 0 refl)))
   where
     stamped : (x : Block) (number slot : ℕ) → option_and_then (block_in slot) (page_at with_forwarder number) ≡ Some x → x.stamp ≡ 6
-    stamped x zero zero e = ap (λ b. b.stamp) (sym (same_Some _ x e))
-    stamped x zero (suc zero) e = absurd (none-some x e)
-    stamped x zero (suc (suc zero)) e = ap (λ b. b.stamp) (sym (same_Some _ x e))
-    stamped x zero (suc (suc (suc zero))) e = absurd (none-some x e)
-    stamped x zero (suc (suc (suc (suc slot)))) e = absurd (none-some x e)
-    stamped x (suc number) slot e = absurd (none-some x e)
+    stamped x number slot e = grind (arith, same_Some, none-some)
 
 -- what a collector is at after so many steps of the quantum that starts a cycle which is asked for, over one page that is free
 abbrev phases : ℕ → ℕ → Option (List Phase)

@@ -1,12 +1,8 @@
 -- What a heap shows beside the world of the same commands, what its cycles keep, and what their snapshots have.
 use Rattle.std.proofs.Common.{◌≡◌, ◌==◌, ◌&&◌, ◌++◌, ℕ, Bool, true, false, Option, Some, None, is_some, List, [], ◌∷◌, map, take, refl, option_map}
 use Rattle.mh_model.specs.declared.command.Command.TheVariants.{Clear, End, Get, New, Post, Put, Read, Take, Write}
-use Rattle.mh_model.specs.declared.command.Event.{Event}
-use Rattle.mh_model.specs.declared.config.Config.{Config}
-use Rattle.mh_model.specs.World.{Object}
-use Rattle.mh_model.specs.Configs.{configured}
-use Rattle.mh_model.specs.View.{heap_view}
-use Rattle.mh_model.specs.Snapshot.{Moment, first_moment, moment_after}
+use Rattle.mh_model.specs.{declared.command.Event.Event, declared.config.Config.Config, World.Object}
+use Rattle.mh_model.specs.{Configs.configured, View.heap_view, Snapshot.{Moment, first_moment, moment_after}}
 use Rattle.mh_rows.proofs.rows.Worked.{worked, times, a, b, session, start, quantum_asked}
 
 -- Tests of equality ------------------------------------------------------------------------------

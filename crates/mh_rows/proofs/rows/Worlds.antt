@@ -1,11 +1,9 @@
 -- Worlds after events, which objects paths reach there, what a cycle keeps, and views that do not agree with a world.
-use Rattle.std.proofs.Common.{[], ap, arith, Bool, get_or, inl, inr, IsSome, List, lit<, lit≤, None, not, Option, refl, replicate, Some, suc, true, zero, ℕ, ◌&&◌, ◌==◌, ◌∷◌, ◌≡◌, ◌≤◌, ⊎_elim}
+use Rattle.std.proofs.Common.{[], ap, arith, Bool, get_or, inl, inr, IsSome, List, lit<, lit≤, None, not, Option, refl, replicate, Some, suc, true, ℕ, ◌&&◌, ◌==◌, ◌∷◌, ◌≡◌, ◌≤◌, ⊎_elim}
 use Rattle.std.proofs.lemmas.Bool.Decides.{nat_tests}
 use Rattle.mh_model.specs.declared.command.Command.TheVariants.{Clear, New, Put, Write}
-use Rattle.mh_model.specs.declared.reply.Refusal.TheVariants.{BadSlot, HeapFull}
-use Rattle.mh_model.specs.declared.reply.Reply.TheVariants as reply
-use Rattle.mh_model.specs.Paths.{Agrees, IsPath, Reachable}
-use Rattle.mh_model.specs.Snapshot.{IsKept, world_beside}
+use Rattle.mh_model.specs.{declared.reply.Refusal.TheVariants.{BadSlot, HeapFull}, declared.reply.Reply.Reply}
+use Rattle.mh_model.specs.{Paths.{Agrees, IsPath, Reachable}, Snapshot.{IsKept, world_beside}}
 use Rattle.mh_model.specs.World.{births, first_world, IsClosed, number_of, Object, object_at, reference_of, World}
 use Rattle.mh_rows.proofs.rows.Worked.{a, four_pages, quantum_asked, start, stat, worked, world_after}
 
@@ -20,7 +18,7 @@ after_two_objects = refl
 
 -- beside a heap the world takes each command but one that was answered by a full heap
 -- refuses: the world takes no step after a refused one
-pub beside_a_full_heap : births (world_beside (first_world four_pages) (a (New 0 0 0) ∷ start ∷ a (New 1 0 0) ∷ a (New 16 0 0) ∷ a (New 2 0 0) ∷ []) (reply.Done ∷ reply.Done ∷ reply.Refused HeapFull ∷ reply.Refused BadSlot ∷ reply.Done ∷ [])) ≡ 2
+pub beside_a_full_heap : births (world_beside (first_world four_pages) (a (New 0 0 0) ∷ start ∷ a (New 1 0 0) ∷ a (New 16 0 0) ∷ a (New 2 0 0) ∷ []) (Reply.Done ∷ Reply.Done ∷ Reply.Refused HeapFull ∷ Reply.Refused BadSlot ∷ Reply.Done ∷ [])) ≡ 2
 unfolding worked
 beside_a_full_heap = refl
 
@@ -37,11 +35,9 @@ names_no birth (None ∷ slots) = names_no birth slots
 names_no birth (Some other ∷ slots) = not (other == birth) && names_no birth slots
 
 no_slot_names : (birth : ℕ) (slots : List (Option ℕ)) → names_no birth slots ≡ true → (slot : ℕ) → ¬ (get_or slots slot None ≡ Some birth)
-no_slot_names birth [] none slot e = cc
-no_slot_names birth (None ∷ slots) none zero e = cc
 no_slot_names birth (None ∷ slots) none (suc slot) e = no_slot_names birth slots none slot e
-no_slot_names birth (Some other ∷ slots) none zero e = let same : other ≡ birth = cc in grind (arith, nat_tests)
 no_slot_names birth (Some other ∷ slots) none (suc slot) e = no_slot_names birth slots (grind (arith, nat_tests)) slot e
+no_slot_names birth slots none slot e = grind (arith, nat_tests)
 
 -- an object that a slot names is reached
 -- refuses: every birth is reached
@@ -69,11 +65,7 @@ kept_since_born = inr (lit≤ tt, lit< tt)
 
 third_unreferred : (nearest field : ℕ) → ¬ (reference_of (object_at three_objects nearest) field ≡ Some 2)
 unfolding worked
-third_unreferred zero zero e = let second : ℕ = 1 in let same : second ≡ 2 = cc in omega (arith, same)
-third_unreferred zero (suc field) e = cc
-third_unreferred (suc zero) field e = cc
-third_unreferred (suc (suc zero)) field e = cc
-third_unreferred (suc (suc (suc nearest))) field e = cc
+third_unreferred nearest field e = grind arith
 
 no_path : (path : List ℕ) → ¬ IsPath three_objects 2 path
 unfolding worked

@@ -1,5 +1,5 @@
 -- Draws of two seats from a claim word, and claims of which every seat has ended, or not every one.
-use Rattle.std.proofs.Common.{◌≡◌, ◌+◌, ℕ, zero, suc, Option, Some, None, List, [], ◌∷◌, false, true, length, refl, ◌≤◌, lit<, arith, get_or, nat_lt, if◌then◌else◌}
+use Rattle.std.proofs.Common.{◌≡◌, ◌+◌, ℕ, Option, Some, None, List, [], ◌∷◌, false, true, length, refl, ◌≤◌, lit<, arith, get_or, nat_lt, if◌then◌else◌}
 use Rattle.std.proofs.lemmas.Bool.Decides.{nat_tests}
 use Rattle.mh_model.specs.History.{ClaimState, has_ended, IsDrawn, OnlyLastPast, times_drawn, with_draw, draw_answer}
 use Rattle.mh_seat_laws.specs.Laws.{AllHaveEnded}
@@ -40,19 +40,12 @@ once_above number above = grind (arith, nat_tests)
 -- each number below the word is drawn once, and no other
 -- refuses: a draw appends the number after; a draw leaves the word
 pub once : (number : ℕ) → times_drawn number five_draws.drawn ≡ (if nat_lt number five_draws.word then 1 else 0)
-once zero = refl
-once (suc zero) = refl
-once (suc (suc zero)) = refl
-once (suc (suc (suc zero))) = refl
-once (suc (suc (suc (suc zero)))) = refl
-once (suc (suc (suc (suc (suc number))))) = once_above (suc (suc (suc (suc (suc number))))) (omega arith)
+once number = search (arith, once_above)
 
 -- only the last number of a seat may not be below the bound
 -- refuses: no number of a list may be past the bound
 pub only_last : (seat : ℕ) → OnlyLastPast 3 (get_or five_draws.drawn seat [])
-only_last zero = (lit< tt, (lit< tt, tt))
-only_last (suc zero) = (lit< tt, tt)
-only_last (suc (suc seat)) = tt
+only_last seat = grind arith
 
 -- five draws keep the draw rule
 -- refuses: the number of the word itself is drawn too
@@ -71,9 +64,7 @@ both_ended = record { word = 4; drawn = (0 ∷ 1 ∷ 2 ∷ []) ∷ (3 ∷ []) �
 -- both of two seats have ended if each drew one number past the bound
 -- refuses: numbers past the seats must have ended too
 pub ended : AllHaveEnded 2 both_ended
-ended zero within = refl
-ended (suc zero) within = refl
-ended (suc (suc seat)) within = absurd (omega arith)
+ended is within = grind arith
 
 -- when both have ended the word is past the bound by the number of the seats
 pub word_at_most : both_ended.word ≡ 2 + length both_ended.drawn

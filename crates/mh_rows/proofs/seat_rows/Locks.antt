@@ -1,12 +1,11 @@
 -- Calls that take a value from under a lock and give it back, and locks and their tables that keep the rule or do not.
-use Rattle.std.proofs.Common.{[], ap, arith, Bool, cond, get_or, inl, inr, List, lit<, ne_eqb, None, Option, refl, Some, subst, suc, sym, zero, ℕ, ◌<◌, ◌∙◌, ◌∷◌, ◌≡◌, ◌≢◌, ⊎_elim}
-use mathlib.Core.Option.{none, some, some-injective, some-ne-none}
-use lib.ListN.{get_elem?}
+use Rattle.std.proofs.Common.{[], arith, get_or, inl, inr, List, lit<, None, Option, refl, Some, ℕ, ◌<◌, ◌∷◌, ◌≡◌, ◌≢◌, ⊎_elim}
 use Rattle.std.proofs.lemmas.List.Elements.{All-cons, All-nil}
+use mathlib.Core.Option.{none, some}
+use lib.ListN.{get_elem?}
 use Rattle.atomic_table.specs.Table.{State}
 use Rattle.mh_model.specs.History.{AreLogs, IsKeptBy, LockState, owned_by, with_give, with_take}
-use Rattle.mh_seat_laws.specs.Lock.{Fits, IsLocked}
-use Rattle.mh_seat_laws.specs.declared.seat_view.Found.{Found}
+use Rattle.mh_seat_laws.specs.{Lock.{Fits, IsLocked}, declared.seat_view.FoundValue.FoundValue}
 use Rattle.mh_seat_laws.specs.declared.seat_view.SeatView.{SeatView}
 
 -- an entry is the number of its seat
@@ -56,14 +55,10 @@ given_without_entry = refl
 -- Locks ------------------------------------------------------------------------------------------
 
 logs_at_home : AreLogs owner (0 ∷ []) at_home.logs
-logs_at_home zero = refl
-logs_at_home (suc zero) = refl
-logs_at_home (suc (suc seat)) = sym (ap (λ (b : Bool). cond b (0 ∷ []) []) (ne_eqb 0 (suc (suc seat)) (λ same. absurd (omega arith))))
+logs_at_home is = grind arith
 
 nobody_at_home : (seat : ℕ) → get_or at_home.taken seat None ≡ None
-nobody_at_home zero = refl
-nobody_at_home (suc zero) = refl
-nobody_at_home (suc (suc seat)) = refl
+nobody_at_home seat = grind arith
 
 -- the value is at home, and each log is what its seat owns
 -- refuses: the word of a lock at home may be 1
@@ -71,9 +66,7 @@ pub kept_at_home : IsKeptBy owner at_home
 kept_at_home = inl record { seats = refl; word = refl; history = 0 ∷ []; home = refl; nobody = nobody_at_home; logs = logs_at_home }
 
 nobody_else : (seat : ℕ) → seat ≢ 1 → get_or out.taken seat None ≡ None
-nobody_else zero other = refl
-nobody_else (suc zero) other = absurd (other refl)
-nobody_else (suc (suc seat)) other = refl
+nobody_else seat other = grind arith
 
 -- one seat has the value and knows what it found, and each log is what its seat owns of that
 -- refuses: a value may be at home and out
@@ -81,9 +74,7 @@ pub kept_out : IsKeptBy owner out
 kept_out = inr record { seats = refl; word = refl; home = refl; history = 0 ∷ []; holder = 1; found = refl; others = nobody_else; logs = logs_at_home }
 
 other_log : (logs : List (List ℕ)) (seat : ℕ) → ¬ (get_or logs seat [] ≡ owned_by owner seat (0 ∷ [])) → ¬ IsKeptBy owner (record at_home { logs = logs })
-other_log logs seat differs kept = ⊎_elim
-    (λ home. let history : 0 ∷ [] ≡ home.history = cc in differs (subst (λ h. get_or logs seat [] ≡ owned_by owner seat h) (sym history) (home.logs seat)))
-    (λ away. let word : 0 ≡ 1 = away.word in omega arith) kept
+other_log logs seat differs kept = grind arith
 
 -- a lock whose log lacks its seat's entry does not keep the rule
 -- refuses: logs may lack entries; logs may have other entries
@@ -118,7 +109,7 @@ abbrev IsLockedTable : ℕ × ℕ → State (List ℕ × ℕ) (SeatView ℕ ℕ)
 IsLockedTable about table = IsLocked owner entries origin about table
 
 -- what a seat knows that stands for two, of which the first has an entry
-abbrev both_seats : Option (Found ℕ ℕ) → SeatView ℕ ℕ
+abbrev both_seats : Option (FoundValue ℕ ℕ) → SeatView ℕ ℕ
 both_seats found = record { logs = (0, 0 ∷ []) ∷ (1, []) ∷ []; found = found }
 
 -- and when it has the value, which has an origin
@@ -126,17 +117,15 @@ abbrev with_value : ℕ → SeatView ℕ ℕ
 with_value start = both_seats (Some (record { history = 0 ∷ []; origin = start }))
 
 -- the origin that a seat found, or 0
-abbrev start_in : Option (Found ℕ ℕ) → ℕ
+abbrev start_in : Option (FoundValue ℕ ℕ) → ℕ
 start_in None = 0
 start_in (Some found) = found.origin
 
 only_view : (P : SeatView ℕ ℕ → Type 0) (seat : SeatView ℕ ℕ) → P seat → (id : ℕ) (view : SeatView ℕ ℕ) → get_elem? (seat ∷ []) id ≡ some view → P view
-only_view P seat holds zero view there = subst P (some-injective seat view there) holds
-only_view P seat holds (suc id) view there = absurd (some-ne-none view (sym there))
+only_view P seat holds id view there = grind arith
 
 only_seat : (seat : SeatView ℕ ℕ) (id : ℕ) (view : SeatView ℕ ℕ) → get_elem? (seat ∷ []) id ≡ some view → id ≡ 0
-only_seat seat zero view there = refl
-only_seat seat (suc id) view there = absurd (some-ne-none view (sym there))
+only_seat seat id view there = grind arith
 
 -- the value at home, with the origin 7
 abbrev table_at_home : State (List ℕ × ℕ) (SeatView ℕ ℕ)
@@ -186,15 +175,9 @@ table_kept_out = record {
 -- a table with a value of another origin at home does not keep the rule
 -- refuses: a rule that says nothing of the origin of a value at home
 pub another_at_home : ¬ IsLockedTable (2, 8) table_at_home
-another_at_home kept = ⊎_elim
-    (λ home. let same : some (some (0 ∷ [], 7)) ≡ some (some home.value) = home.at_home in let value : (0 ∷ [], 7) ≡ home.value = cc in let start : 7 ≡ 8 = ap origin value ∙ home.same_origin in omega arith)
-    (λ out. let word : 0 ≡ 1 = out.word in omega arith) kept.place
+another_at_home kept = grind arith
 
 -- a table whose holder found a value of another origin does not keep the rule
 -- refuses: a holder may have found any origin
 pub another_found : ¬ IsLockedTable (2, 7) (out_from 8)
-another_found kept = ⊎_elim
-    (λ home. let word : 1 ≡ 0 = home.word in omega arith)
-    (λ out. let seat : with_value 8 ≡ out.view = only_view (λ view. with_value 8 ≡ view) (with_value 8) refl out.holder out.view out.holder_view in
-    let start : 8 ≡ 7 = ap (λ (view : SeatView ℕ ℕ). start_in view.found) seat ∙ ap start_in out.found in omega arith)
-    kept.place
+another_found kept = grind (arith, only_view)

@@ -1,5 +1,5 @@
 -- Merges of two logs, and histories that are no merges of their logs.
-use Rattle.std.proofs.Common.{[], ◌∷◌, ◌≡◌, get_or, List, refl, set, subst, suc, zero, ℕ}
+use Rattle.std.proofs.Common.{[], ◌∷◌, ◌≡◌, get_or, List, refl, set, ℕ, arith}
 use Rattle.mh_seat_laws.specs.Merges.{IsMerge}
 
 -- two logs, of two entries and of one
@@ -11,9 +11,7 @@ abbrev two_empty : List (List ℕ)
 two_empty = [] ∷ [] ∷ []
 
 nothing_left : (seat : ℕ) → get_or two_empty seat [] ≡ []
-nothing_left zero = refl
-nothing_left (suc zero) = refl
-nothing_left (suc (suc seat)) = refl
+nothing_left seat = grind arith
 
 -- an entry of one log may come between two of another
 -- refuses: a merge may leave entries; an entry stays in its log
@@ -28,24 +26,17 @@ merged_in_turn = (record { seat = 0; rest = 1 ∷ []; log = refl }, (record { se
 -- the order of a log is kept
 -- refuses: an entry needs no log; a log's last entry goes first
 pub against_the_order : ¬ IsMerge two_logs (1 ∷ 0 ∷ 2 ∷ [])
-against_the_order merge = none merge.0.seat merge.0.rest merge.0.log
-  where
-    none : (seat : ℕ) (rest : List ℕ) → get_or two_logs seat [] ≡ 1 ∷ rest → ⊥
-    none zero rest e = cc
-    none (suc zero) rest e = cc
-    none (suc (suc seat)) rest e = cc
+against_the_order merge = grind arith
 
 -- one log of one entry, and after that entry
 abbrev one_log : List ℕ → List (List ℕ)
 one_log log = log ∷ []
 
 none_after : (entry seat : ℕ) (rest : List ℕ) → get_or (one_log []) seat [] ≡ entry ∷ rest → ⊥
-none_after entry zero rest e = cc
-none_after entry (suc seat) rest e = cc
+none_after entry seat rest e = grind arith
 
 no_second : (entry seat : ℕ) (rest : List ℕ) → get_or (one_log (0 ∷ [])) seat [] ≡ 0 ∷ rest → (next : ℕ) (last : List ℕ) → get_or (set (one_log (0 ∷ [])) seat rest) next [] ≡ entry ∷ last → ⊥
-no_second entry zero rest e next last f = let empty : rest ≡ [] = cc in none_after entry next last (subst (λ r. get_or (one_log r) next [] ≡ entry ∷ last) empty f)
-no_second entry (suc seat) rest e next last f = cc
+no_second entry seat rest e next last f = grind (arith, none_after)
 
 -- no entry of a log is left out
 -- refuses: a merge may leave entries

@@ -1,31 +1,23 @@
 -- A new object on the pages, beside the same in what the heap shows.
-use Rattle.std.proofs.Common.{◌≡◌, ℕ, zero, suc, ◌+◌, ◌<◌, ◌≤◌, false, inl, inr, List, [], ◌∷◌, ◌++◌, length, get_or, set, map, flat_map, replicate, slice_get, Option, Some, None, option_map, is_none, unwrap_or, refl, sym, ap, ap₂, ◌∙◌, subst, arith}
-use Rattle.std.proofs.lemmas.Bool.{false≢true, ltb-false}
-use Rattle.std.proofs.lemmas.Option.{none-some, same_Some}
-use Rattle.mh_model.specs.declared.command.Command.TheVariants as command
-use Rattle.mh_model.specs.declared.shape.Shape.{Shape}
-use Rattle.mh_model.specs.World.{World, Object, own_slot, shape_of, blank, with_object, tests}
-use Rattle.mh_model.specs.Classes.{tabulate, parts}
-use Rattle.mh_model.specs.Pages.{block_at}
-use Rattle.mh_model.specs.Table.{Block, Made, resolve}
-use Rattle.mh_model.specs.Collector.{Collector}
+use Rattle.std.proofs.Common.{◌≡◌, ℕ, zero, suc, ◌+◌, ◌<◌, false, inl, inr, List, [], ◌∷◌, ◌++◌, length, get_or, set, map, flat_map, replicate, Option, Some, None, option_map, is_none, unwrap_or, refl, sym, ap, ap₂, ◌∙◌, subst, arith}
+use Rattle.std.proofs.{lemmas.Bool.{false≢true, ltb-false}, lemmas.Option.{none-some, same_Some}}
+use Rattle.mh_model.specs.{declared.command.Command.Command, declared.shape.Shape.Shape}
+use Rattle.mh_model.specs.{World.{World, Object, own_slot, shape_of, blank, with_object, tests}, Classes.tabulate}
+use Rattle.mh_model.specs.{Pages.block_at, Table.{Block, Made, resolve}, Collector.Collector}
 use Rattle.mh_model.specs.Mutator.{HeapState, with_root, new_group, with_born, heap_sight, heap_effect}
 use Rattle.mh_model.specs.View.{birth_named, arraylet_words, field_blocks, block_of_birth, object_of, object_shown, heap_view}
 use Rattle.mh_model.specs.Invariant.{IsPlainAt, first_child, IsSound, KeepsSnapshot, IsKeeping}
 use Rattle.mh_run_laws.specs.Following.{Follows}
-use Rattle.mh_laws.proofs.showing.ObjectsShown.{Has, field_block-back}
-use Rattle.mh_laws.proofs.marking.BlockChanges.{resolve-live}
+use Rattle.mh_laws.proofs.{showing.ObjectsShown.{Has, field_block-back}, marking.BlockChanges.resolve-live}
 use Rattle.mh_laws.proofs.objects.NewbornBlocks.{IsNewborn, IsObjectBorn, made_group-born}
-use Rattle.mh_laws.proofs.OfTableLaws.Parts.{first_part}
 use Rattle.mh_laws.proofs.snapshots.NewObjects.{borne, either, new_at, resolve-borne, plain_forth, plain_new, plain_old, sound-borne, snapshot-borne, newborn_root}
 use Rattle.mh_laws.proofs.showing.FoundBlocks.{found-first, first-found}
 use Rattle.mh_laws.proofs.showing.SamePlainBlocks.{plain-held, held-plain, object-same, roots-same}
-use Rattle.mh_laws.proofs.OfTableLaws.JoinedFields.{shape_is, by_header, has_none, an_arraylet, arraylet_count}
-use Rattle.mh_laws.proofs.snapshots.Barriers.{IsWritable}
-use Rattle.mh_laws.proofs.snapshots.SessionCommands.{each_fails}
+use Rattle.mh_laws.proofs.{snapshots.Barriers.IsWritable, snapshots.SessionCommands.each_fails}
+use Rattle.mh_table_laws.proofs.objects.JoinedFields.{shape_is, by_header, has_none, an_arraylet, arraylet_count}
+use Rattle.mh_table_laws.proofs.Lists.{below_length}
 use Rattle.mh_run_laws.proofs.following.SlotCommands.{births_at, shows_root, follows, refused_alike, own_tests}
 use Rattle.mh_model.proofs.TabulateLemmas.{length-tabulate}
-use Rattle.mh_laws.proofs.OfTableLaws.Lists.{below_length}
 
 -- Lists ------------------------------------------------------------------------------------------
 
@@ -79,7 +71,7 @@ module _ (snapshot : World) (n : ℕ) (c : Collector) (shape : Shape) (made : Ma
   old_shown birth below = go (block_of_birth c birth) (block_of_birth d birth) refl refl
     where
       go : (o p : Option Block) → block_of_birth c birth ≡ o → block_of_birth d birth ≡ p → object_shown d birth ≡ object_shown c birth
-      go None None e f = ap (option_map (object_of d.table)) f ∙ ap (option_map (object_of c.table)) (sym e)
+      go None None e f = grind arith
       go None (Some y) e f =
           let (q, at) = found-first (n + 1) d sound birth y f in
           elim (either snapshot n c shape made h born q y at.there) [
@@ -102,15 +94,12 @@ module _ (snapshot : World) (n : ℕ) (c : Collector) (shape : Shape) (made : Ma
 
     -- its header is its shape
     born_header : x.header ≡ record { references = shape.references; numbers = shape.numbers }
-    born_header = newborn.part_of.header ∙ (first_part shape.references shape.numbers newborn.part_of.part (ap (slice_get (parts shape.references shape.numbers)) (sym newborn.part_is) ∙ newborn.part_of.is)).header
+    born_header = grind arith
 
     -- a block of its fields is newborn, and has no children
     field_newborn : (y : Block) → Has (field_blocks d.table x) y → (index : ℕ) × IsNewborn n c.cycle shape born.places index y × (first_child shape index ≡ None)
     field_newborn y has = elim (field_block-back d.table x y has) [
-      | inl own ↦
-          let few : x.header.references + x.header.numbers ≤ 60 = omega (arith, ltb-false 60 (x.header.references + x.header.numbers) own.0) in
-          let flat = by_header (n + 1) d sound made.place x plain_x newborn.part_is x refl (has_none (n + 1) d sound made.place x plain_x newborn.part_is few) in
-          (0, subst (IsNewborn n c.cycle shape born.places 0) (sym own.1) newborn, ap (first_child shape) (sym newborn.part_is) ∙ ap (λ (s : Shape). first_child s x.part) (sym born_header) ∙ flat)
+      | inl own ↦ grind (arith, ltb-false, by_header, sound, plain_x, has_none, IsNewborn, born_header)
       | inr far ↦
           let (k, r, e, at) = far.1 in
           let count = arraylet_count (n + 1) d sound made.place x plain_x newborn.part_is far.0 in
@@ -129,9 +118,7 @@ module _ (snapshot : World) (n : ℕ) (c : Collector) (shape : Shape) (made : Ma
     is_blank : object_of d.table x ≡ blank shape.references shape.numbers
     is_blank =
         let shaped : shape_of (object_of d.table x) ≡ record { references = shape.references; numbers = shape.numbers } = shape_is (n + 1) d sound made.place x plain_x newborn.part_is ∙ born_header in
-        ap₂ (λ references numbers. record { references = references; numbers = numbers })
-        (each_repeats None (object_of d.table x).references nulls ∙ ap (λ (s : Shape). replicate s.references None) shaped)
-        (each_repeats 0 (object_of d.table x).numbers zeros ∙ ap (λ (s : Shape). replicate s.numbers 0) shaped)
+        grind (arith, each_repeats, nulls, zeros)
       where
         nulls : Each None (object_of d.table x).references
         nulls = each_flat (λ (y : Block). map (birth_named d.table) y.references) None (field_blocks d.table x) (λ y has.
@@ -147,13 +134,10 @@ module _ (snapshot : World) (n : ℕ) (c : Collector) (shape : Shape) (made : Ma
     born_shown = ap (option_map (object_of d.table)) (first-found (n + 1) d sound n made.place x (record { there = there; held = plain-held d made.place x plain_x; birth_is = newborn.birth_is; first = newborn.part_is })) ∙ ap Some is_blank
 
     born_named : birth_named d.table (Some made.place) ≡ Some n
-    born_named = ap (λ q. option_map (λ (y : Block). y.birth) (block_at d.table q)) (resolve-live d.table made.place x there newborn.live) ∙ ap (option_map (λ (y : Block). y.birth)) there ∙ ap Some newborn.birth_is
+    born_named = grind arith
 
   old_births : births_at d ≡ births_at c
-  old_births = roots-same c.table d.table c.slots (λ i r e.
-      let (y, plain, first) = h.sound.slots i r e in
-      let at : block_at c.table (resolve c.table r) ≡ Some y = ap (block_at c.table) (resolve-live c.table r y plain.there plain.original) ∙ plain.there in
-      leads_on r y at ∙ sym at)
+  old_births = roots-same c.table d.table c.slots (search (arith, resolve-live, leads_on))
 
 -- The command ------------------------------------------------------------------------------------
 
@@ -179,10 +163,10 @@ module _ (heap : HeapState) (keeping : IsKeeping heap) where
       ∙ ap (λ o. tabulate (object_shown c) 0 n ++ o ∷ []) (ap (object_shown after) last ∙ shows.objects n ∙ born_shown keeping.0 n c shape made keeping.1 born x there newborn))
       (shows.slots ∙ ap₂ (λ slots name. set slots slot name) (old_births keeping.0 n c shape made keeping.1 born) (born_named keeping.0 n c shape made keeping.1 born x there newborn ∙ ap Some (sym (length-tabulate (object_shown c) 0 n))))
 
-  pub new-follows : (who slot references numbers : ℕ) → Follows heap who (command.New slot references numbers)
+  pub new-follows : (who slot references numbers : ℕ) → Follows heap who (Command.New slot references numbers)
   unfolding heap_effect
-  new-follows who slot references numbers = follows heap who (command.New slot references numbers) (refused_alike heap keeping who (command.New slot references numbers)) (λ e.
-      let fails = each_fails (tests (heap_sight heap) who (command.New slot references numbers)) (own_tests heap keeping who (command.New slot references numbers) e) in
+  new-follows who slot references numbers = follows heap who (Command.New slot references numbers) (refused_alike heap keeping who (Command.New slot references numbers)) (λ e.
+      let fails = each_fails (tests (heap_sight heap) who (Command.New slot references numbers)) (own_tests heap keeping who (Command.New slot references numbers) e) in
       record { reply = refl; state = by_group (new_group heap references numbers) refl fails.1.1.0 })
     where
       by_group : (made : Option Made) → new_group heap references numbers ≡ made → is_none (new_group heap references numbers) ≡ false → heap_view (unwrap_or (option_map (with_born heap (own_slot who slot)) (new_group heap references numbers)) heap) ≡ with_object (heap_view heap) (own_slot who slot) (blank references numbers)

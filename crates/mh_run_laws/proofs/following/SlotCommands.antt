@@ -1,41 +1,32 @@
 -- Commands on the pages, beside the same commands on what the heap shows.
-use Rattle.std.proofs.Common.{◌≡◌, ℕ, zero, suc, ◌+◌, ◌<◌, nat_le, ◌==◌, if◌then◌else◌, Bool, true, false, List, [], ◌∷◌, get_or, set, map, Option, Some, None, option_map, option_and_then, refl, sym, ap, ap₂, ◌∙◌, arith, subst, eq-eqb, eqb-true, unwrap_or, length, ◌-◌}
-use Rattle.std.proofs.lemmas.Bool.{false≢true, leb-false}
-use Rattle.std.proofs.lemmas.Option.{none-some, same_Some}
-use Rattle.mh_model.specs.declared.command.Command.{Command}
-use Rattle.mh_model.specs.declared.command.Command.TheVariants as command
-use Rattle.mh_model.specs.declared.reply.Refusal.{Refusal}
-use Rattle.mh_model.specs.declared.reply.Reply.TheVariants as reply
-use Rattle.mh_model.specs.declared.reply.Refusal.TheVariants.{BadSlot, Null, NoField, Ended, TooManySessions}
-use Rattle.mh_model.specs.declared.shape.Shape.{Shape}
-use Rattle.mh_model.specs.World.{World, own_slot, board_slot, slot_at, cleared, with_slot, with_end, names_same, yes_or_no, object_at, object_in, object_named, shape_of, shape_reply, first_refusal, is_bad, is_null, lacks_reference, lacks_number, refusal, sight_of, effect, heap_step, unless_refused, tests, number_of, reference_of}
-use Rattle.mh_model.specs.Pages.{block_at}
-use Rattle.mh_model.specs.Table.{resolve, Block, target_of, position_of, reference_in, number_in, loaded_reference}
+use Rattle.std.proofs.Common.{◌≡◌, ℕ, zero, suc, ◌+◌, ◌<◌, nat_le, ◌==◌, if◌then◌else◌, Bool, true, false, List, [], ◌∷◌, get_or, set, map, Option, Some, None, option_map, refl, sym, ap, ap₂, ◌∙◌, arith, subst, eq-eqb, eqb-true, unwrap_or, length, ◌-◌}
+use Rattle.std.proofs.{lemmas.Bool.false≢true, lemmas.Option.same_Some}
+use Rattle.mh_model.specs.{declared.command.Command.Command, declared.reply.Refusal.Refusal, declared.reply.Reply.Reply}
+use Rattle.mh_model.specs.{declared.reply.Refusal.TheVariants.{Ended, TooManySessions}, declared.shape.Shape.Shape}
+use Rattle.mh_model.specs.World.{World, own_slot, slot_at, cleared, with_slot, with_end, names_same, object_at, object_in, object_named, shape_of, first_refusal, lacks_number, refusal, sight_of, effect, heap_step, unless_refused, tests, number_of, reference_of}
+use Rattle.mh_model.specs.Table.{Block, target_of, position_of, reference_in, number_in, loaded_reference}
 use Rattle.mh_model.specs.Collector.{Collector, with_shade}
 use Rattle.mh_model.specs.Mutator.{HeapState, in_roots, with_root, with_roots_cleared, with_session_cleared, root_at, shape_at, heap_sight, heap_effect, mutator_step, field_of, number_field}
 use Rattle.mh_model.specs.View.{birth_named, object_of, object_shown, heap_view}
 use Rattle.mh_model.specs.Invariant.{IsPlainAt, IsSound, KeepsSnapshot, IsKeeping}
 use Rattle.mh_run_laws.specs.Following.{has_no_place, Follows}
 use Rattle.mh_model.proofs.TabulateLemmas.{get_or-tabulate}
-use Rattle.mh_laws.proofs.OfTableLaws.JoinedFields.{shape_is, laid, number_read, reference_read}
+use Rattle.mh_table_laws.proofs.objects.JoinedFields.{shape_is, laid, number_read, reference_read}
 use Rattle.mh_laws.proofs.marking.BlockChanges.{resolve-live, roots_mark, no_sweep}
 use Rattle.mh_laws.proofs.snapshots.SessionCommands.{each_fails, not_null, has_reference, loaded_writable, field_held}
 use Rattle.mh_laws.proofs.snapshots.Barriers.{IsWritable, nothing_writable, root_writable, snapshot-with_root}
-use Rattle.mh_laws.proofs.showing.FoundBlocks.{first-found, tabulate-same}
+use Rattle.mh_laws.proofs.{showing.FoundBlocks.{first-found, tabulate-same}, showing.SamePlainBlocks.plain-held}
 use Rattle.mh_run_laws.proofs.showing.AlikeTables.{with_shade-alike, roots-alike, alike-shown}
-use Rattle.mh_laws.proofs.showing.SamePlainBlocks.{plain-held}
 
 -- Lists ------------------------------------------------------------------------------------------
 
 pub map-put : {X Y : Type 0} (f : X → Y) (xs : List X) (i : ℕ) (x : X) → map f (set xs i x) ≡ set (map f xs) i (f x)
-map-put f [] i x = refl
-map-put f (y ∷ xs) zero x = refl
 map-put f (y ∷ xs) (suc i) x = ap (λ ys. f y ∷ ys) (map-put f xs i x)
+map-put f xs i x = refl
 
 pub map-read : {X Y : Type 0} (f : Option X → Option Y) → f None ≡ None → (xs : List (Option X)) (i : ℕ) → get_or (map f xs) i None ≡ f (get_or xs i None)
-map-read f none [] i = sym none
-map-read f none (x ∷ xs) zero = refl
 map-read f none (x ∷ xs) (suc i) = map-read f none xs i
+map-read f none xs i = grind arith
 
 -- Roots ------------------------------------------------------------------------------------------
 
@@ -65,7 +56,7 @@ module _ (snapshot : World) (heap : HeapState) where
           }
 
       go : (b : Bool) → in_roots c.phase ≡ b → IsSound heap.next_birth (with_root c slot reference) → ShowsRoot c (with_root c slot reference) slot reference
-      go true e sound = subst (λ d. ShowsRoot c d slot reference) (ap (root_after c slot reference) (sym e)) (by_shade (with_root c slot reference) (ap (root_after c slot reference) e) e sound)
+      go true e sound = grind (arith, by_shade (with_root c slot reference) (ap (root_after c slot reference) e) e sound)
       go false e sound = subst (λ d. ShowsRoot c d slot reference) (ap (root_after c slot reference) (sym e)) (record { objects = λ birth. refl; slots = map-put (birth_named c.table) c.slots slot reference })
 
   record ShowsCleared (c d : Collector) (slot count : ℕ) : Type 0 where
@@ -95,13 +86,7 @@ Both heap who command o o' = ((unless_refused o heap (heap_effect heap who comma
 pub follows : (heap : HeapState) (who : ℕ) (command : Command) → refusal (heap_sight heap) who command ≡ refusal (sight_of (has_no_place heap) (heap_view heap)) who command
     → (refusal (heap_sight heap) who command ≡ None → EffectFollows heap who command) → Follows heap who command
 unfolding mutator_step heap_step
-follows heap who command refused done =
-    let both = subst (Both heap who command (refusal (heap_sight heap) who command)) refused (go (refusal (heap_sight heap) who command) refl) in
-    record { reply = both.0; state = both.1 }
-  where
-    go : (o : Option Refusal) → refusal (heap_sight heap) who command ≡ o → Both heap who command o o
-    go None e = let does = done e in (does.reply, does.state)
-    go (Some r) e = (refl, refl)
+follows heap who command refused done = grind arith
 
 -- Slots ------------------------------------------------------------------------------------------
 
@@ -114,70 +99,63 @@ module _ (heap : HeapState) (keeping : IsKeeping heap) where
 
   -- a root that gets what another root holds, or nothing
   copied : (slot source : ℕ) → ShowsRoot keeping.0 heap c (with_root c slot (root_at heap source)) slot (root_at heap source)
-  copied slot source = shows_root keeping.0 heap c slot (root_at heap source) keeping.1 (root_writable keeping.0 heap.next_birth c source keeping.1)
+  copied slot source = search (arith, shows_root, root_writable)
 
   view_copied : (slot source : ℕ) → heap_view (record heap { collector = with_root c slot (root_at heap source) }) ≡ with_slot (heap_view heap) slot (slot_at (heap_view heap) source)
   unfolding heap_view
-  view_copied slot source =
-      let shows = copied slot source in
-      ap₂ (λ objects slots. record { config = heap.config; objects = objects; slots = slots; ended = heap.ended }) (tabulate-same (object_shown c) (object_shown (with_root c slot (root_at heap source))) shows.objects 0 heap.next_birth)
-      (shows.slots ∙ ap (set (births_at c) slot) (birth_at source))
+  view_copied slot source = grind (arith, copied, tabulate-same, birth_at)
 
   view_cleared : (slot : ℕ) → heap_view (record heap { collector = with_root c slot None }) ≡ with_slot (heap_view heap) slot None
   unfolding heap_view
-  view_cleared slot =
-      let shows = shows_root keeping.0 heap c slot None keeping.1 (nothing_writable keeping.0 heap.next_birth c) in
-      ap₂ (λ objects slots. record { config = heap.config; objects = objects; slots = slots; ended = heap.ended }) (tabulate-same (object_shown c) (object_shown (with_root c slot None)) shows.objects 0 heap.next_birth) shows.slots
+  view_cleared slot = grind (arith, shows_root keeping.0 heap c slot None keeping.1 (nothing_writable keeping.0 heap.next_birth c))
 
   view_ended : (who : ℕ) → heap_view (record heap { collector = with_session_cleared c who; ended = set heap.ended who true }) ≡ with_end (heap_view heap) who
   unfolding heap_view with_session_cleared
-  view_ended who =
-      let shows = shows_cleared keeping.0 heap 16 c (own_slot who 0) keeping.1 in
-      ap₂ (λ objects slots. record { config = heap.config; objects = objects; slots = slots; ended = set heap.ended who true }) (tabulate-same (object_shown c) (object_shown (with_roots_cleared c (own_slot who 0) 16)) shows.objects 0 heap.next_birth) shows.slots
+  view_ended who = grind (arith, shows_cleared keeping.0 heap 16 c (own_slot who 0) keeping.1)
 
-  refused_copy : (who slot source : ℕ) → refusal (heap_sight heap) who (command.Copy slot source) ≡ refusal (sight_of (has_no_place heap) (heap_view heap)) who (command.Copy slot source)
+  refused_copy : (who slot source : ℕ) → refusal (heap_sight heap) who (Command.Copy slot source) ≡ refusal (sight_of (has_no_place heap) (heap_view heap)) who (Command.Copy slot source)
   unfolding heap_view
   refused_copy who slot source = refl
 
-  refused_clear : (who slot : ℕ) → refusal (heap_sight heap) who (command.Clear slot) ≡ refusal (sight_of (has_no_place heap) (heap_view heap)) who (command.Clear slot)
+  refused_clear : (who slot : ℕ) → refusal (heap_sight heap) who (Command.Clear slot) ≡ refusal (sight_of (has_no_place heap) (heap_view heap)) who (Command.Clear slot)
   unfolding heap_view
   refused_clear who slot = refl
 
-  refused_post : (who board slot : ℕ) → refusal (heap_sight heap) who (command.Post board slot) ≡ refusal (sight_of (has_no_place heap) (heap_view heap)) who (command.Post board slot)
+  refused_post : (who board slot : ℕ) → refusal (heap_sight heap) who (Command.Post board slot) ≡ refusal (sight_of (has_no_place heap) (heap_view heap)) who (Command.Post board slot)
   unfolding heap_view
   refused_post who board slot = refl
 
-  refused_take : (who slot board : ℕ) → refusal (heap_sight heap) who (command.Take slot board) ≡ refusal (sight_of (has_no_place heap) (heap_view heap)) who (command.Take slot board)
+  refused_take : (who slot board : ℕ) → refusal (heap_sight heap) who (Command.Take slot board) ≡ refusal (sight_of (has_no_place heap) (heap_view heap)) who (Command.Take slot board)
   unfolding heap_view
   refused_take who slot board = refl
 
-  refused_end : (who : ℕ) → refusal (heap_sight heap) who command.End ≡ refusal (sight_of (has_no_place heap) (heap_view heap)) who command.End
+  refused_end : (who : ℕ) → refusal (heap_sight heap) who Command.End ≡ refusal (sight_of (has_no_place heap) (heap_view heap)) who Command.End
   unfolding heap_view
   refused_end who = refl
 
-  refused_same : (who left right : ℕ) → refusal (heap_sight heap) who (command.Same left right) ≡ refusal (sight_of (has_no_place heap) (heap_view heap)) who (command.Same left right)
+  refused_same : (who left right : ℕ) → refusal (heap_sight heap) who (Command.Same left right) ≡ refusal (sight_of (has_no_place heap) (heap_view heap)) who (Command.Same left right)
   unfolding heap_view
   refused_same who left right = refl
 
-  pub copy-follows : (who slot source : ℕ) → Follows heap who (command.Copy slot source)
+  pub copy-follows : (who slot source : ℕ) → Follows heap who (Command.Copy slot source)
   unfolding heap_effect
-  copy-follows who slot source = follows heap who (command.Copy slot source) (refused_copy who slot source) (λ e. record { reply = refl; state = view_copied (own_slot who slot) (own_slot who source) })
+  copy-follows who slot source = grind (arith, follows, refused_copy, view_copied)
 
-  pub clear-follows : (who slot : ℕ) → Follows heap who (command.Clear slot)
+  pub clear-follows : (who slot : ℕ) → Follows heap who (Command.Clear slot)
   unfolding heap_effect
-  clear-follows who slot = follows heap who (command.Clear slot) (refused_clear who slot) (λ e. record { reply = refl; state = view_cleared (own_slot who slot) })
+  clear-follows who slot = grind (arith, follows, refused_clear, view_cleared)
 
-  pub post-follows : (who board slot : ℕ) → Follows heap who (command.Post board slot)
+  pub post-follows : (who board slot : ℕ) → Follows heap who (Command.Post board slot)
   unfolding heap_effect
-  post-follows who board slot = follows heap who (command.Post board slot) (refused_post who board slot) (λ e. record { reply = refl; state = view_copied (board_slot board) (own_slot who slot) })
+  post-follows who board slot = grind (arith, follows, refused_post, view_copied)
 
-  pub take-follows : (who slot board : ℕ) → Follows heap who (command.Take slot board)
+  pub take-follows : (who slot board : ℕ) → Follows heap who (Command.Take slot board)
   unfolding heap_effect
-  take-follows who slot board = follows heap who (command.Take slot board) (refused_take who slot board) (λ e. record { reply = refl; state = view_copied (own_slot who slot) (board_slot board) })
+  take-follows who slot board = grind (arith, follows, refused_take, view_copied)
 
-  pub end-follows : (who : ℕ) → Follows heap who command.End
+  pub end-follows : (who : ℕ) → Follows heap who Command.End
   unfolding heap_effect
-  end-follows who = follows heap who command.End (refused_end who) (λ e. record { reply = refl; state = view_ended who })
+  end-follows who = follows heap who Command.End (refused_end who) (λ e. record { reply = refl; state = view_ended who })
 
   -- two roots hold the same place just when the same birth shows at them
   names_alike : (left right : ℕ) → names_same (root_at heap left) (root_at heap right) ≡ names_same (birth_named c.table (root_at heap left)) (birth_named c.table (root_at heap right))
@@ -187,38 +165,27 @@ module _ (heap : HeapState) (keeping : IsKeeping heap) where
       sound = keeping.1.sound
 
       born : (slot r : ℕ) → root_at heap slot ≡ Some r → (x : Block) × IsPlainAt c r x × (x.part ≡ 0) × (birth_named c.table (Some r) ≡ Some x.birth)
-      born slot r e =
-          let (x, plain, first) = sound.slots slot r e in
-          (x, plain, first, ap (λ q. option_map (λ (y : Block). y.birth) (block_at c.table q)) (resolve-live c.table r x plain.there plain.original) ∙ ap (option_map (λ (y : Block). y.birth)) plain.there)
+      born slot r e = grind arith
 
       go : (l : Option ℕ) → root_at heap left ≡ l → (r : Option ℕ) → root_at heap right ≡ r → names_same l r ≡ names_same (birth_named c.table l) (birth_named c.table r)
       go None e None f = refl
       go None e (Some r) f = let (x, plain, first, is) = born right r f in ap (names_same None) (sym is)
-      go (Some l) e None f = let (x, plain, first, is) = born left l e in ap (λ o. names_same o None) (sym is)
+      go (Some l) e None f = search (arith, born)
       go (Some l) e (Some r) f =
           let (x, plain_x, first_x, is_x) = born left l e in
           let (y, plain_y, first_y, is_y) = born right r f in
           by_place l r x y plain_x plain_y first_x first_y (l == r) refl (x.birth == y.birth) refl ∙ sym (ap₂ names_same is_x is_y)
         where
           by_place : (l r : ℕ) (x y : Block) → IsPlainAt c l x → IsPlainAt c r y → x.part ≡ 0 → y.part ≡ 0 → (b : Bool) → (l == r) ≡ b → (b' : Bool) → (x.birth == y.birth) ≡ b' → (l == r) ≡ (x.birth == y.birth)
-          by_place l r x y px py fx fy true e true f = e ∙ sym f
-          by_place l r x y px py fx fy false e false f = e ∙ sym f
-          by_place l r x y px py fx fy true e false f =
-              let same = same_Some x y (sym px.there ∙ ap (block_at c.table) (eqb-true l r e) ∙ py.there) in
-              absurd (false≢true (sym f ∙ eq-eqb x.birth y.birth (ap (λ (z : Block). z.birth) same)))
-          by_place l r x y px py fx fy false e true f =
-              absurd (false≢true (sym e ∙ eq-eqb l r (keeping.1.sound.one l r x y px.there py.there px.original py.original (eqb-true x.birth y.birth f) (fx ∙ sym fy))))
+          by_place l r x y px py fx fy b e b' f = search (arith, same_Some, eqb-true, false≢true, eq-eqb)
 
   pub slot_shown : (slot : ℕ) → birth_named c.table (root_at heap slot) ≡ slot_at (heap_view heap) slot
   unfolding heap_view
   slot_shown slot = birth_at slot
 
-  pub same-follows : (who left right : ℕ) → Follows heap who (command.Same left right)
+  pub same-follows : (who left right : ℕ) → Follows heap who (Command.Same left right)
   unfolding heap_effect
-  same-follows who left right = follows heap who (command.Same left right) (refused_same who left right) (λ e. record {
-    reply = ap (λ b. yes_or_no b) (names_alike (own_slot who left) (own_slot who right) ∙ ap₂ names_same (slot_shown (own_slot who left)) (slot_shown (own_slot who right)));
-    state = refl;
-  })
+  same-follows who left right = grind (arith, follows, refused_same, names_alike, slot_shown)
 
   -- Objects ----------------------------------------------------------------------------------------
 
@@ -232,7 +199,7 @@ module _ (heap : HeapState) (keeping : IsKeeping heap) where
 
   pub object_view : (birth : ℕ) → birth < heap.next_birth → object_at (heap_view heap) birth ≡ object_shown c birth
   unfolding heap_view
-  object_view birth below = let e : 0 + birth ≡ birth = omega arith in get_or-tabulate (object_shown c) 0 heap.next_birth birth None below ∙ ap (object_shown c) e
+  object_view birth below = grind (arith, get_or-tabulate)
 
   pub shown_plain : (p : ℕ) (z : Block) → IsPlainAt c p z → z.part ≡ 0 → object_at (heap_view heap) z.birth ≡ Some (object_of c.table z)
   shown_plain p z plain first =
@@ -243,46 +210,29 @@ module _ (heap : HeapState) (keeping : IsKeeping heap) where
   at_root slot place e =
       let (z, plain, first) = keeping.1.sound.slots slot place e in (
         z,
-        record {
-          root = e;
-          plain = plain;
-          first = first;
-          birth = sym (slot_shown slot) ∙ ap (birth_named c.table) e ∙ ap (λ q. option_map (λ (y : Block). y.birth) (block_at c.table q)) (resolve-live c.table place z plain.there plain.original) ∙ ap (option_map (λ (y : Block). y.birth)) plain.there;
-          object = shown_plain place z plain first;
-        },
+        grind (arith, slot_shown slot, resolve-live c.table place z plain.there plain.original, shown_plain place z plain first),
       )
 
   pub shape_view : (slot : ℕ) → shape_at heap slot ≡ option_map shape_of (object_in (heap_view heap) slot)
   shape_view slot = go (root_at heap slot) refl
     where
       go : (o : Option ℕ) → root_at heap slot ≡ o → shape_at heap slot ≡ option_map shape_of (object_in (heap_view heap) slot)
-      go None e = ap (λ o. option_map (λ (x : Block). x.header) (option_and_then (block_at c.table) o)) e ∙ sym (ap (λ o. option_map shape_of (object_named (heap_view heap) o)) (sym (slot_shown slot) ∙ ap (birth_named c.table) e))
+      go None e = grind (arith, slot_shown slot)
       go (Some place) e =
           let (z, is) = at_root slot place e in
-          ap (λ o. option_map (λ (x : Block). x.header) (option_and_then (block_at c.table) o)) e ∙ ap (option_map (λ (x : Block). x.header)) is.plain.there
-          ∙ ap Some (sym (shape_is heap.next_birth c keeping.1.sound place z is.plain is.first))
-          ∙ sym (ap (λ o. option_map shape_of (object_named (heap_view heap) o)) is.birth ∙ ap (option_map shape_of) is.object)
+          grind (arith, shape_is heap.next_birth c keeping.1.sound place z is.plain is.first)
 
   again : (who : ℕ) (here there : List (Bool × Refusal)) → here ≡ there → first_refusal ((nat_le 8 who, TooManySessions) ∷ (get_or heap.ended who false, Ended) ∷ here) ≡ first_refusal ((nat_le 8 who, TooManySessions) ∷ (get_or heap.ended who false, Ended) ∷ there)
-  again who here there e = ap (λ list. first_refusal ((nat_le 8 who, TooManySessions) ∷ (get_or heap.ended who false, Ended) ∷ list)) e
+  again who here there e = grind arith
 
   -- A command is refused on the pages as it is on what the heap shows
   pub refused_alike : (who : ℕ) (command : Command) → refusal (heap_sight heap) who command ≡ refusal (sight_of (has_no_place heap) (heap_view heap)) who command
   unfolding heap_view
-  refused_alike who (command.New slot references numbers) = refl
-  refused_alike who (command.Get slot source field) = again who _ _ (ap (λ (x : Option Shape). (is_bad slot, BadSlot) ∷ (is_bad source, BadSlot) ∷ (is_null x, Null) ∷ (lacks_reference x field, NoField) ∷ []) (shape_view (own_slot who source)))
-  refused_alike who (command.Put slot field value) = again who _ _ (ap (λ (x : Option Shape). (is_bad slot, BadSlot) ∷ (is_bad value, BadSlot) ∷ (is_null x, Null) ∷ (lacks_reference x field, NoField) ∷ []) (shape_view (own_slot who slot)))
-  refused_alike who (command.Copy slot source) = refl
-  refused_alike who (command.Clear slot) = refl
-  refused_alike who (command.Read slot index) = again who _ _ (ap (λ (x : Option Shape). (is_bad slot, BadSlot) ∷ (is_null x, Null) ∷ (lacks_number x index, NoField) ∷ []) (shape_view (own_slot who slot)))
-  refused_alike who (command.Write slot index number) = again who _ _ (ap (λ (x : Option Shape). (is_bad slot, BadSlot) ∷ (is_null x, Null) ∷ (lacks_number x index, NoField) ∷ []) (shape_view (own_slot who slot)))
-  refused_alike who (command.Same left right) = refl
-  refused_alike who (command.Shape slot) = again who _ _ (ap (λ (x : Option Shape). (is_bad slot, BadSlot) ∷ (is_null x, Null) ∷ []) (shape_view (own_slot who slot)))
-  refused_alike who asked = refl
+  refused_alike who asked = grind (arith, again, shape_view)
 
-  pub shape-follows : (who slot : ℕ) → Follows heap who (command.Shape slot)
+  pub shape-follows : (who slot : ℕ) → Follows heap who (Command.Shape slot)
   unfolding heap_effect
-  shape-follows who slot = follows heap who (command.Shape slot) (refused_alike who (command.Shape slot)) (λ e. record { reply = ap shape_reply (shape_view (own_slot who slot)); state = refl })
+  shape-follows who slot = search (arith, follows, refused_alike, shape_view)
 
   -- Fields -----------------------------------------------------------------------------------------
 
@@ -297,31 +247,21 @@ module _ (heap : HeapState) (keeping : IsKeeping heap) where
   object_at_root slot shape e = go (root_at heap slot) refl
     where
       go : (o : Option ℕ) → root_at heap slot ≡ o → IsObjectAt slot shape
-      go None is = absurd (none-some shape (sym (ap (λ o. option_map (λ (x : Block). x.header) (option_and_then (block_at c.table) o)) is) ∙ e))
-      go (Some place) is =
-          let (z, at) = at_root slot place is in
-          record { place = place; block = z; at = at; header = same_Some z.header shape (sym (ap (λ o. option_map (λ (x : Block). x.header) (option_and_then (block_at c.table) o)) is ∙ ap (option_map (λ (x : Block). x.header)) at.plain.there) ∙ e) }
+      go None is = grind arith
+      go (Some place) is = grind (arith, at_root slot place is)
 
   object_in_view : (slot place : ℕ) (z : Block) → IsAtRoot slot place z → object_in (heap_view heap) slot ≡ Some (object_of c.table z)
   object_in_view slot place z at = ap (object_named (heap_view heap)) at.birth ∙ at.object
 
   pub has_number : (shape : Option Shape) (index : ℕ) (s : Shape) → shape ≡ Some s → lacks_number shape index ≡ false → index < s.numbers
-  has_number None index s e lacks = absurd (none-some s e)
-  has_number (Some t) index s e lacks = let same = ap (λ (x : Shape). x.numbers) (same_Some t s e) in omega (arith, same, leb-false t.numbers index lacks)
+  has_number shape index s e lacks = grind arith
 
   -- the tests of the command alone, if it isn't refused
   pub own_tests : (who : ℕ) (command : Command) → refusal (heap_sight heap) who command ≡ None → first_refusal (tests (heap_sight heap) who command) ≡ None
-  own_tests who command e = by (nat_le 8 who) (get_or heap.ended who false) e
-    where
-      by : (a b : Bool) → (if a then Some TooManySessions else (if b then Some Ended else first_refusal (tests (heap_sight heap) who command))) ≡ None → first_refusal (tests (heap_sight heap) who command) ≡ None
-      by true b f = absurd (none-some TooManySessions (sym f))
-      by false true f = absurd (none-some Ended (sym f))
-      by false false f = f
+  own_tests who command e = grind arith
 
   pub number_place : (slot index : ℕ) (s : Shape) (o : IsObjectAt slot s) → number_field heap slot index ≡ position_of c.table o.place (o.block.header.references + index)
-  number_place slot index s o =
-      let shape = ap (λ r. option_map (λ (x : Block). x.header) (option_and_then (block_at c.table) r)) o.at.root ∙ ap (option_map (λ (x : Block). x.header)) o.at.plain.there in
-      ap₂ (λ r (t : Option Shape). position_of c.table (unwrap_or r 0) (unwrap_or (option_map (λ (x : Shape). x.references) t) 0 + index)) o.at.root shape
+  number_place slot index s o = grind arith
 
   number_shown : (slot index : ℕ) (s : Shape) → shape_at heap slot ≡ Some s → index < s.numbers → number_in c.table (number_field heap slot index) ≡ number_of (object_in (heap_view heap) slot) index
   number_shown slot index s e below =
@@ -334,12 +274,12 @@ module _ (heap : HeapState) (keeping : IsKeeping heap) where
       ∙ sym (number_read heap.next_birth c keeping.1.sound o.place o.block o.at.plain o.at.first index (omega (arith, size, below)) l)
       ∙ sym (ap (λ x. number_of x index) (object_in_view slot o.place o.block o.at))
 
-  pub read-follows : (who slot index : ℕ) → Follows heap who (command.Read slot index)
+  pub read-follows : (who slot index : ℕ) → Follows heap who (Command.Read slot index)
   unfolding heap_effect
-  read-follows who slot index = follows heap who (command.Read slot index) (refused_alike who (command.Read slot index)) (λ e.
-      let fails = each_fails (tests (heap_sight heap) who (command.Read slot index)) (own_tests who (command.Read slot index) e) in
+  read-follows who slot index = follows heap who (Command.Read slot index) (refused_alike who (Command.Read slot index)) (λ e.
+      let fails = each_fails (tests (heap_sight heap) who (Command.Read slot index)) (own_tests who (Command.Read slot index) e) in
       let (s, is) = not_null (shape_at heap (own_slot who slot)) fails.1.0 in
-      record { reply = ap (λ n. reply.Number n) (number_shown (own_slot who slot) index s is (has_number (shape_at heap (own_slot who slot)) index s is fails.1.1.0)); state = refl })
+      record { reply = ap (λ n. Reply.Number n) (number_shown (own_slot who slot) index s is (has_number (shape_at heap (own_slot who slot)) index s is fails.1.1.0)); state = refl })
 
   -- the birth to which a field refers
   reference_shown : (slot field : ℕ) (s : Shape) → shape_at heap slot ≡ Some s → field < s.references → birth_named c.table (reference_in c.table (field_of heap slot field)) ≡ reference_of (object_in (heap_view heap) slot) field
@@ -356,21 +296,16 @@ module _ (heap : HeapState) (keeping : IsKeeping heap) where
 
   -- a reference names the same birth after it is forwarded
   birth_loaded : (o : Option ℕ) → IsWritable keeping.0 heap.next_birth c (target_of c.table o) → birth_named c.table (target_of c.table o) ≡ birth_named c.table o
-  birth_loaded None w = refl
-  birth_loaded (Some r) w =
-      let (x, plain, first, kept) = w.leads (resolve c.table r) refl in
-      ap (λ q. option_map (λ (y : Block). y.birth) (block_at c.table q)) (resolve-live c.table (resolve c.table r) x plain.there plain.original)
+  birth_loaded o w = grind arith
 
   view_rooted : (slot : ℕ) (reference : Option ℕ) → IsWritable keeping.0 heap.next_birth c reference → heap_view (record heap { collector = with_root c slot reference }) ≡ with_slot (heap_view heap) slot (birth_named c.table reference)
   unfolding heap_view
-  view_rooted slot reference w =
-      let shows = shows_root keeping.0 heap c slot reference keeping.1 w in
-      ap₂ (λ objects slots. record { config = heap.config; objects = objects; slots = slots; ended = heap.ended }) (tabulate-same (object_shown c) (object_shown (with_root c slot reference)) shows.objects 0 heap.next_birth) shows.slots
+  view_rooted slot reference w = grind (arith, shows_root keeping.0 heap c slot reference keeping.1 w)
 
-  pub get-follows : (who slot source field : ℕ) → Follows heap who (command.Get slot source field)
+  pub get-follows : (who slot source field : ℕ) → Follows heap who (Command.Get slot source field)
   unfolding heap_effect
-  get-follows who slot source field = follows heap who (command.Get slot source field) (refused_alike who (command.Get slot source field)) (λ e.
-      let fails = each_fails (tests (heap_sight heap) who (command.Get slot source field)) (own_tests who (command.Get slot source field) e) in
+  get-follows who slot source field = follows heap who (Command.Get slot source field) (refused_alike who (Command.Get slot source field)) (λ e.
+      let fails = each_fails (tests (heap_sight heap) who (Command.Get slot source field)) (own_tests who (Command.Get slot source field) e) in
       let (s, is) = not_null (shape_at heap (own_slot who source)) fails.1.1.0 in
       let below = has_reference (shape_at heap (own_slot who source)) field s is fails.1.1.1.0 in
       let w = loaded_writable keeping.0 heap keeping.1 (field_of heap (own_slot who source) field) (field_held keeping.0 heap keeping.1 (own_slot who source) field s is below) in

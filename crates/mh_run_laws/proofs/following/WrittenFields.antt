@@ -1,47 +1,40 @@
 -- A field written on the pages, beside the same field written in what the heap shows.
-use Rattle.std.proofs.Common.{◌≡◌, ℕ, zero, suc, ◌+◌, ◌-◌, ◌/◌, ◌%◌, ◌<◌, if◌then◌else◌, Bool, true, false, inl, inr, List, [], ◌∷◌, ◌++◌, length, get_or, set, map, flat_map, slice_get, Option, Some, None, option_map, option_and_then, unwrap_or, refl, sym, ap, ap₂, ◌∙◌, subst, arith}
+use Rattle.std.proofs.Common.{◌≡◌, ℕ, zero, suc, ◌+◌, ◌-◌, ◌/◌, ◌%◌, ◌<◌, if◌then◌else◌, Bool, true, false, List, [], ◌∷◌, ◌++◌, length, get_or, set, map, flat_map, slice_get, Option, Some, None, option_map, unwrap_or, refl, sym, ap, ap₂, ◌∙◌, subst, arith}
+use Rattle.std.proofs.{lemmas.Bool.{cases_eq, false≢true, ltb-true}, lemmas.Option.{none-some, same_Some}}
 use Rattle.std.specs.Prelude.{option_to_list}
-use Rattle.std.proofs.lemmas.Bool.{cases_eq, false≢true, ltb-true}
-use Rattle.std.proofs.lemmas.Option.{none-some, same_Some}
-use Rattle.mh_model.specs.declared.shape.Shape.{Shape}
-use Rattle.mh_model.specs.declared.command.Command.TheVariants as command
-use Rattle.mh_model.specs.World.{Object, own_slot, object_at, with_change, with_number, with_reference, tests}
-use Rattle.mh_model.specs.Classes.{run_count, middle_count}
-use Rattle.mh_model.proofs.TabulateLemmas.{tabulate-set}
-use Rattle.mh_model.specs.Pages.{Table, block_at, with_block}
+use Rattle.mh_model.specs.{declared.shape.Shape.Shape, declared.command.Command.Command}
+use Rattle.mh_model.specs.World.{Object, own_slot, with_change, with_number, with_reference, tests}
+use Rattle.mh_model.specs.{Classes.{run_count, middle_count}, Pages.{Table, block_at, with_block}}
 use Rattle.mh_model.specs.Table.{Block, Position, resolve, is_spine, is_tall, position_of, number_index, with_number_at, with_reference_at, reference_in}
 use Rattle.mh_model.specs.Collector.{Collector, with_shade}
 use Rattle.mh_model.specs.Mutator.{HeapState, in_roots_or_mark, root_at, shape_at, field_of, heap_sight, heap_effect, with_number_stored, with_reference_stored}
 use Rattle.mh_model.specs.Snapshot.{IsKept}
 use Rattle.mh_model.specs.View.{in_sweep, block_named, blocks_named, birth_named, arraylet_words, field_blocks, object_of, object_shown, heap_view}
 use Rattle.mh_model.specs.Invariant.{IsPlainAt, HasFieldsAt, first_child, IsSound, IsKeeping}
+use Rattle.mh_model.proofs.TabulateLemmas.{tabulate-set}
 use Rattle.mh_run_laws.specs.Following.{Follows}
-use Rattle.mh_laws.proofs.OfTableLaws.Places.{block_at-with_block_same, block_at-with_block_other, block-slot}
+use Rattle.mh_table_laws.proofs.placing.Places.{block_at-with_block_same, block_at-with_block_other, block-slot}
+use Rattle.mh_table_laws.proofs.objects.JoinedFields.{AreSameBut, SetsNumber, SetsReference, a_middle, IsArraylet, an_arraylet, arraylet_count, IsLaid, are_runs, laid, has_fields, named_at, write_numbers, write_references}
+use Rattle.mh_table_laws.proofs.objects.Headers.{flat_of}
 use Rattle.mh_laws.proofs.marking.BlockChanges.{resolve-live, no_sweep}
 use Rattle.mh_laws.proofs.snapshots.SessionCommands.{each_fails, not_null, has_reference, field_held}
 use Rattle.mh_laws.proofs.snapshots.Barriers.{HasFields, root_writable, snapshot-with_number_stored, snapshot-with_reference_stored}
 use Rattle.mh_laws.proofs.marking.MarkSteps.{IsGuarded, guarded, leads}
 use Rattle.mh_laws.proofs.showing.SamePlainBlocks.{plain-held, held-plain}
-use Rattle.mh_laws.proofs.OfTableLaws.JoinedFields.{AreSameBut, SetsNumber, SetsReference, a_middle, IsArraylet, an_arraylet, arraylet_count, IsLaid, are_runs, laid, has_fields, named_at, write_numbers, write_references}
-use Rattle.mh_laws.proofs.OfTableLaws.Headers.{flat_of}
 use Rattle.mh_laws.proofs.showing.FoundBlocks.{shown-changed, shown-same}
 use Rattle.mh_run_laws.proofs.showing.AlikeTables.{IsAlike, position-same, birth-same, with_shade-alike}
 use Rattle.mh_run_laws.proofs.following.SlotCommands.{map-put, slot_shown, follows, own_tests, has_number, number_place, object_view, object_at_root, refused_alike}
 use Rattle.mh_run_laws.proofs.showing.MarkingShows.{alike-view}
 
 weaker : (A B : Block → Block → Type 0) → ((x x' : Block) → A x x' → B x x') → (i : ℕ) (ys ys' : List Block) → AreSameBut A i ys ys' → AreSameBut B i ys ys'
-weaker A B turn i [] ys' same = absurd same
-weaker A B turn zero (x ∷ ys) [] same = absurd same
-weaker A B turn (suc i) (x ∷ ys) [] same = absurd same
 weaker A B turn zero (x ∷ ys) (x' ∷ ys') (is, same) = (turn x x' is, same)
 weaker A B turn (suc i) (x ∷ ys) (x' ∷ ys') (is, same) = (is, weaker A B turn i ys ys' same)
+weaker A B turn i is ys' same = absurd same
 
 taken-kept : {X : Type 0} (f : Block → List X) (i : ℕ) (ys ys' : List Block) → AreSameBut (λ x x'. f x' ≡ f x) i ys ys' → flat_map f ys' ≡ flat_map f ys
-taken-kept f i [] ys' same = absurd same
-taken-kept f zero (x ∷ ys) [] same = absurd same
-taken-kept f (suc i) (x ∷ ys) [] same = absurd same
 taken-kept f zero (x ∷ ys) (x' ∷ ys') (is, same) = ap₂ (λ a b. a ++ flat_map f b) is same
 taken-kept f (suc i) (x ∷ ys) (x' ∷ ys') (is, same) = ap₂ (λ (a : Block) b. f a ++ b) is (taken-kept f i ys ys' same)
+taken-kept f i ys ys' same = absurd same
 
 -- Arraylets, of which one is another -------------------------------------------------------------
 
@@ -73,9 +66,7 @@ listed-inside g [] k x e = absurd (none-some x e)
 listed-inside g (o ∷ rs) k x e = by (g o) k e (λ j f. listed-inside g rs j x f)
   where
     by : (b : Option Block) (k : ℕ) → slice_get (option_to_list b ++ flat_map (λ o. option_to_list (g o)) rs) k ≡ Some x → ((j : ℕ) → slice_get (flat_map (λ o. option_to_list (g o)) rs) j ≡ Some x → j < length rs) → k < suc (length rs)
-    by None k e rest = let below = rest k e in omega (arith, below)
-    by (Some y) zero e rest = omega arith
-    by (Some y) (suc k) e rest = let below = rest k e in omega (arith, below)
+    by b k e rest = grind arith
 
 -- One block is another, of the same part of the same object ---------------------------------------
 
@@ -110,32 +101,20 @@ module _ (n : ℕ) (c : Collector) (h : IsSound n c) (q : ℕ) (old new : Block)
   away p apart = block_at-with_block_other t q p (Some new) apart
 
   resolve-kept : (r : ℕ) → resolve t' r ≡ resolve t r
-  resolve-kept r = elim (cases_eq r q) [
-    | inl is ↦ subst (λ k. resolve t' k ≡ resolve t k) (sym is) (resolve-live t' q new here (also.forward ∙ plain_q.original) ∙ sym (resolve-live t q old plain_q.there plain_q.original))
-    | inr apart ↦ ap (λ o. unwrap_or (option_and_then (λ (b : Block). b.forward) o) r) (away r apart)
-  ]
+  resolve-kept r = grind (arith, cases_eq, resolve-live, here, away)
 
   birth-kept : (o : Option ℕ) → birth_named t' o ≡ birth_named t o
-  birth-kept None = refl
-  birth-kept (Some r) = ap (λ p. option_map (λ (b : Block). b.birth) (block_at t' p)) (resolve-kept r) ∙ at (resolve t r)
-    where
-      at : (p : ℕ) → option_map (λ (b : Block). b.birth) (block_at t' p) ≡ option_map (λ (b : Block). b.birth) (block_at t p)
-      at p = elim (cases_eq p q) [
-        | inl is ↦ subst (λ k. option_map (λ (b : Block). b.birth) (block_at t' k) ≡ option_map (λ (b : Block). b.birth) (block_at t k)) (sym is) (ap (option_map (λ (b : Block). b.birth)) here ∙ ap Some also.birth ∙ sym (ap (option_map (λ (b : Block). b.birth)) plain_q.there))
-        | inr apart ↦ ap (option_map (λ (b : Block). b.birth)) (away p apart)
-      ]
+  birth-kept o = search (arith, resolve-kept, cases_eq, here, away)
 
   births-kept : (os : List (Option ℕ)) → map (birth_named t') os ≡ map (birth_named t) os
-  births-kept [] = refl
-  births-kept (o ∷ os) = ap₂ (λ x xs. x ∷ xs) (birth-kept o) (births-kept os)
+  births-kept os = grind (arith, birth-kept)
 
   fields-kept : (ys : List Block) → flat_map (λ (y : Block). map (birth_named t') y.references) ys ≡ flat_map (λ (y : Block). map (birth_named t) y.references) ys
-  fields-kept [] = refl
-  fields-kept (y ∷ ys) = ap₂ (λ a b. a ++ b) (births-kept y.references) (fields-kept ys)
+  fields-kept ys = grind (arith, births-kept)
 
   -- a block of another part or of another object
   apart_by : (p : ℕ) (x : Block) → block_at t p ≡ Some x → ((x.birth ≡ old.birth) × (x.part ≡ old.part) → ⊥) → p ≡ q → ⊥
-  apart_by p x there differs e = let same = same_Some x old (sym there ∙ ap (block_at t) e ∙ plain_q.there) in differs (ap (λ (z : Block). z.birth) same, ap (λ (z : Block). z.part) same)
+  apart_by p x there differs e = grind arith
 
   named-away : (r : ℕ) (x : Block) → block_at t (resolve t r) ≡ Some x → ((x.birth ≡ old.birth) × (x.part ≡ old.part) → ⊥) → block_named t' (Some r) ≡ block_named t (Some r)
   named-away r x there differs = ap (block_at t') (resolve-kept r) ∙ away (resolve t r) (apart_by (resolve t r) x there differs)
@@ -186,19 +165,10 @@ module _ (n : ℕ) (c : Collector) (h : IsSound n c) (q : ℕ) (old new : Block)
       let place : p ≡ q = h.one p q z old plain.there plain_q.there plain.original plain_q.original (ap (λ (x : Block). x.birth) z_is) (ap (λ (x : Block). x.part) z_is) in
       let flat' : is_spine new ≡ false = ap (λ (s : Shape). is_spine (record new { header = s })) (also.header ∙ ap (λ (x : Block). x.header) (sym z_is)) ∙ flat in
       let in_one : AreSameBut Changes 0 (old ∷ []) (new ∷ []) = (changes, refl) in
-      record {
-        block = new;
-        plain = record { there = ap (block_at t') place ∙ here; original = also.forward ∙ plain_q.original; surviving = λ e. also.stamp ∙ plain_q.surviving e };
-        same = ap (λ (x : Block). x.birth) (sym z_is);
-        birth = also.birth ∙ ap (λ (x : Block). x.birth) (sym z_is);
-        part = also.part ∙ ap (λ (x : Block). x.part) (sym z_is);
-        blocks = subst (λ b. AreSameBut Changes k (blocks_if t z b) (field_blocks t' new)) (sym flat) (subst (λ b. AreSameBut Changes k (z ∷ []) (blocks_if t' new b)) (sym flat')
-            (subst (λ j. AreSameBut Changes j (z ∷ []) (new ∷ [])) (sym k_is) (subst (λ x. AreSameBut Changes 0 (x ∷ []) (new ∷ [])) (sym z_is) in_one)));
-      }
+      search (arith, here, AreSameBut)
     where
       only : (k : ℕ) → slice_get (z ∷ []) k ≡ Some old → (k ≡ 0) × (z ≡ old)
-      only zero e = (refl, same_Some z old e)
-      only (suc k) e = absurd (none-some old e)
+      only k e = grind arith
 
   is_here : (Changes : Block → Block → Type 0) → Changes old new → (p : ℕ) (z : Block) → IsPlainAt c p z → z.part ≡ 0 → (k : ℕ) → slice_get (field_blocks t z) k ≡ Some old → IsHere Changes p z k
   is_here Changes changes p z plain first k at = go (is_spine z) refl
@@ -278,9 +248,7 @@ module _ (heap : HeapState) (keeping : IsKeeping heap) where
   view_changed : (d : Collector) (birth : ℕ) (change : Object → Object) → birth < heap.next_birth → map (birth_named d.table) d.slots ≡ map (birth_named c.table) c.slots → object_shown d birth ≡ option_map change (object_shown c birth) → ((other : ℕ) → (other ≡ birth → ⊥) → object_shown d other ≡ object_shown c other)
       → heap_view (record heap { collector = d }) ≡ with_change (heap_view heap) (Some birth) change
   unfolding heap_view
-  view_changed d birth change below slots at other = let e : 0 + birth ≡ birth = omega arith in ap₂ (λ objects slots. record { config = heap.config; objects = objects; slots = slots; ended = heap.ended })
-      (tabulate-set (object_shown c) (object_shown d) 0 heap.next_birth birth (option_map change (object_at (heap_view heap) birth)) (λ i from to apart. other i (λ f. apart (f ∙ sym e))) (λ inside. ap (object_shown d) e ∙ at ∙ ap (option_map change) (sym (object_view heap keeping birth below))))
-      slots
+  view_changed d birth change below slots at other = grind (arith, tabulate-set, at, object_view)
 
   module _ (place : ℕ) (z : Block) (plain : IsPlainAt c place z) (first : z.part ≡ 0) (index number : ℕ) (below : index < z.header.numbers) where
     abbrev field : ℕ
@@ -290,7 +258,7 @@ module _ (heap : HeapState) (keeping : IsKeeping heap) where
     position = position_of c.table place field
 
     l : IsLaid heap.next_birth c keeping.1.sound place z plain first field
-    l = laid heap.next_birth c keeping.1.sound place z plain first field (omega (arith, below))
+    l = grind (arith, laid)
 
     abbrev new : Block
     new = record (l.block) { numbers = set l.block.numbers (number_index c.table position) number }
@@ -299,10 +267,10 @@ module _ (heap : HeapState) (keeping : IsKeeping heap) where
     has = has_fields heap.next_birth c keeping.1.sound place z plain first field l
 
     also : IsAlso l.block new
-    also = record { birth = refl; part = refl; header = refl; stamp = refl; forward = refl }
+    also = grind arith
 
     table_is : with_block c.table position.place (Some new) ≡ with_number_at c.table position.place (number_index c.table position) number
-    table_is = ap (λ b. with_block c.table position.place (option_map (λ (x : Block). record x { numbers = set x.numbers (number_index c.table position) number }) b)) (sym l.lies.there)
+    table_is = search arith
 
     sound : IsSound heap.next_birth (changed c position.place new)
     sound = subst (λ t. IsSound heap.next_birth (record c { table = t })) (sym table_is) (snapshot-with_number_stored keeping.0 heap.next_birth c position number l.block l.lies.there l.lies.original keeping.1).sound
@@ -332,10 +300,10 @@ module _ (heap : HeapState) (keeping : IsKeeping heap) where
         (shown_here heap.next_birth c keeping.1.sound position.place l.block new has also sound place z plain first is.block is.plain is.birth is.part (with_number index number) object)
         (λ other differs. shown_away heap.next_birth c keeping.1.sound position.place l.block new has also sound other (λ f. differs (f ∙ is.same))))
 
-  pub write-follows : (who slot index number : ℕ) → Follows heap who (command.Write slot index number)
+  pub write-follows : (who slot index number : ℕ) → Follows heap who (Command.Write slot index number)
   unfolding heap_effect
-  write-follows who slot index number = follows heap who (command.Write slot index number) (refused_alike heap keeping who (command.Write slot index number)) (λ e.
-      let fails = each_fails (tests (heap_sight heap) who (command.Write slot index number)) (own_tests heap keeping who (command.Write slot index number) e) in
+  write-follows who slot index number = follows heap who (Command.Write slot index number) (refused_alike heap keeping who (Command.Write slot index number)) (λ e.
+      let fails = each_fails (tests (heap_sight heap) who (Command.Write slot index number)) (own_tests heap keeping who (Command.Write slot index number) e) in
       let (s, is) = not_null (shape_at heap (own_slot who slot)) fails.1.0 in
       let below = has_number heap keeping (shape_at heap (own_slot who slot)) index s is fails.1.1.0 in
       let o = object_at_root heap keeping (own_slot who slot) s is in
@@ -368,7 +336,7 @@ module _ (heap : HeapState) (keeping : IsKeeping heap) (place : ℕ) (z : Block)
   name_written = birth_named collector_before.table reference
 
   laid_before : IsLaid heap.next_birth collector_before keeping.1.sound place z plain first field
-  laid_before = laid heap.next_birth collector_before keeping.1.sound place z plain first field (omega (arith, below))
+  laid_before = grind (arith, laid)
 
   abbrev block_after : Block
   block_after = record (laid_before.block) { references = set laid_before.block.references written_at.index reference }
@@ -377,19 +345,19 @@ module _ (heap : HeapState) (keeping : IsKeeping heap) (place : ℕ) (z : Block)
   has_before = has_fields heap.next_birth collector_before keeping.1.sound place z plain first field laid_before
 
   also_after : IsAlso laid_before.block block_after
-  also_after = record { birth = refl; part = refl; header = refl; stamp = refl; forward = refl }
+  also_after = grind arith
 
   table_after : with_block collector_before.table written_at.place (Some block_after) ≡ with_reference_at collector_before.table written_at.place written_at.index reference
-  table_after = ap (λ b. with_block collector_before.table written_at.place (option_map (λ (x : Block). record x { references = set x.references written_at.index reference }) b)) (sym laid_before.lies.there)
+  table_after = search arith
 
   sound_changed : IsSound heap.next_birth (changed collector_before written_at.place block_after)
-  sound_changed = subst (λ t. IsSound heap.next_birth (record collector_before { table = t })) (sym table_after) sound_after
+  sound_changed = grind (arith, table_after)
 
   abbrev Rewrites : Block → Block → Type 0
   Rewrites = ReferenceChanges (birth_named collector_before.table) (field % 60) name_written
 
   rewrites : Rewrites laid_before.block block_after
-  rewrites = (map-put (birth_named collector_before.table) laid_before.block.references written_at.index reference ∙ ap (λ i. set (map (birth_named collector_before.table) laid_before.block.references) i name_written) laid_before.index, refl)
+  rewrites = grind (arith, map-put)
 
   is_rewritten : IsHere heap.next_birth collector_before keeping.1.sound written_at.place laid_before.block block_after has_before also_after sound_changed Rewrites place z (field / 60)
   is_rewritten = is_here heap.next_birth collector_before keeping.1.sound written_at.place laid_before.block block_after has_before also_after sound_changed Rewrites rewrites place z plain first (field / 60) laid_before.at
@@ -421,7 +389,7 @@ module _ (heap : HeapState) (keeping : IsKeeping heap) where
 
   -- a shaded state shows the same
   view_shaded : (d : Collector) (o : Option ℕ) → IsGuarded keeping.0 heap.next_birth unshaded d o → in_roots_or_mark unshaded.phase ≡ true → IsAlike unshaded.table d.table → heap_view (record heap { collector = d }) ≡ heap_view heap
-  view_shaded d o g marks same = alike-view keeping.0 heap d (no_sweep unshaded.phase marks) (ap in_sweep g.phase ∙ no_sweep unshaded.phase marks) keeping.1 g.keeps g.slots same
+  view_shaded d o g marks same = grind (arith, alike-view, no_sweep)
 
   stored_shaded : (d : Collector) (o : Option ℕ) → IsGuarded keeping.0 heap.next_birth unshaded d o → in_roots_or_mark unshaded.phase ≡ true → IsAlike unshaded.table d.table → (place : ℕ) (z : Block) → IsPlainAt unshaded place z → z.part ≡ 0 → (field : ℕ) (reference : Option ℕ) → field < z.header.references
       → IsSound heap.next_birth (with_stored d (position_of unshaded.table place field) reference)
@@ -457,10 +425,10 @@ module _ (heap : HeapState) (keeping : IsKeeping heap) where
       go true marks sound = stored_shaded (with_shade unshaded (reference_in unshaded.table position)) (reference_in unshaded.table position)
           (guarded keeping.0 heap.next_birth unshaded (reference_in unshaded.table position) marks (target marks) keeping.1) marks (with_shade-alike unshaded (reference_in unshaded.table position)) place z plain first field reference below sound
 
-  pub put-follows : (who slot field value : ℕ) → Follows heap who (command.Put slot field value)
+  pub put-follows : (who slot field value : ℕ) → Follows heap who (Command.Put slot field value)
   unfolding heap_effect
-  put-follows who slot field value = follows heap who (command.Put slot field value) (refused_alike heap keeping who (command.Put slot field value)) (λ e.
-      let fails = each_fails (tests (heap_sight heap) who (command.Put slot field value)) (own_tests heap keeping who (command.Put slot field value) e) in
+  put-follows who slot field value = follows heap who (Command.Put slot field value) (refused_alike heap keeping who (Command.Put slot field value)) (λ e.
+      let fails = each_fails (tests (heap_sight heap) who (Command.Put slot field value)) (own_tests heap keeping who (Command.Put slot field value) e) in
       let (s, is) = not_null (shape_at heap (own_slot who slot)) fails.1.1.0 in
       let below = has_reference (shape_at heap (own_slot who slot)) field s is fails.1.1.1.0 in
       let o = object_at_root heap keeping (own_slot who slot) s is in

@@ -1,27 +1,15 @@
 -- The induction over a run: before each machine in defragmentation lies the moment at which that defragmentation began.
 -- So each forwarder that a finished cycle leaves was made by it.
-use Rattle.std.proofs.Common.{◌≡◌, if◌then◌else◌, true, false, inl, inr, List, [], ◌∷◌, ◌++◌, None, ℕ, refl, sym, ap, ◌∙◌, subst, append_assoc}
-use Rattle.std.proofs.lemmas.Bool.{false≢true, cases_Bool}
-use Rattle.std.proofs.lemmas.List.{append-nil}
-use Rattle.mh_model.specs.declared.command.Control.TheVariants as control
-use Rattle.mh_model.specs.declared.command.Event.{Event}
-use Rattle.mh_model.specs.declared.command.Event.TheVariants as event
-use Rattle.mh_model.specs.declared.config.Config.{Config}
-use Rattle.mh_model.specs.declared.cycle.Phase.TheVariants.{Defrag}
-use Rattle.mh_model.specs.declared.reply.Reply.TheVariants as reply
-use Rattle.mh_model.specs.World.{says}
-use Rattle.mh_model.specs.Table.{forward_at}
-use Rattle.mh_model.specs.Collector.{Collector, is_idle, is_start_due, quantum}
-use Rattle.mh_model.specs.Mutator.{HeapState}
+use Rattle.std.proofs.Common.{◌≡◌, true, false, inl, inr, List, [], ◌∷◌, ◌++◌, None, ℕ, refl, sym, ap, ◌∙◌, subst, append_assoc, arith}
+use Rattle.std.proofs.{lemmas.Bool.{false≢true, cases_Bool}, lemmas.List.append-nil}
+use Rattle.mh_model.specs.{declared.command.Event.Event, declared.config.Config.Config}
+use Rattle.mh_model.specs.{declared.cycle.Phase.TheVariants.Defrag, Table.forward_at}
+use Rattle.mh_model.specs.{Collector.{Collector, is_idle, is_start_due, quantum}, Mutator.HeapState}
 use Rattle.mh_model.specs.Machine.{Machine, first_machine, quantum_run, command_step, control_step, half_step, event_step, machine_after}
-use Rattle.mh_model.specs.Snapshot.{has_quantum}
-use Rattle.mh_model.specs.Invariant.{in_trace, IsSteady}
-use Rattle.mh_run_laws.specs.BesideTheWorld.{IsInCycle}
-use Rattle.mh_run_laws.specs.Forwarders.{HasBegun, FinishedCyclesMadeTheirForwarders}
-use Rattle.mh_laws.proofs.commands.LeftUnchanged.{mutator_step-course}
-use Rattle.mh_laws.proofs.costs.QuantumStarts.{idle_is, quantum-rests}
-use Rattle.mh_laws.proofs.snapshots.RunningCycles.{moments_keep}
-use Rattle.mh_laws.proofs.snapshots.SteadyStates.{collectors-steady}
+use Rattle.mh_model.specs.{Snapshot.has_quantum, Invariant.{in_trace, IsSteady}}
+use Rattle.mh_run_laws.specs.{BesideTheWorld.IsInCycle, Forwarders.{HasBegun, FinishedCyclesMadeTheirForwarders}}
+use Rattle.mh_laws.proofs.{commands.LeftUnchanged.mutator_step-course, costs.QuantumStarts.{idle_is, quantum-rests}}
+use Rattle.mh_laws.proofs.{snapshots.RunningCycles.moments_keep, snapshots.SteadyStates.collectors-steady}
 use Rattle.mh_laws.proofs.forwarders.BegunWithin.{quanta-made}
 
 -- Events -----------------------------------------------------------------------------------------
@@ -42,25 +30,18 @@ record IsStill (old new : Collector) : Type 0 where
 
 half-still : (machine : Machine) (e : Event) → IsStill machine.heap.collector (half_step machine e).heap.collector
 unfolding command_step
-half-still machine (event.Session who command) = let course = mutator_step-course machine.heap who command in record { phase = course.phase; cycle = course.cycle }
-half-still machine (event.Control control) = record { phase = refl; cycle = refl }
+half-still machine (Event.Session who command) = let course = mutator_step-course machine.heap who command in record { phase = course.phase; cycle = course.cycle }
+half-still machine (Event.Control control) = record { phase = refl; cycle = refl }
 
 -- an event without a quantum leaves what its half step does
 event-still : (machine : Machine) (e : Event) → has_quantum machine e ≡ false → IsStill (half_step machine e).heap.collector (event_step machine e).state.heap.collector
 unfolding event_step control_step
-event-still machine (event.Session who command) none =
-    let half : Machine = (command_step machine who command).state in
-    subst (λ (m : Machine). IsStill half.heap.collector m.heap.collector) (ap (λ due. if due then (quantum_run half).state else half) (sym none)) (record { phase = refl; cycle = refl })
-event-still machine (event.Control control.Quantum) none =
-    subst (λ (m : Machine). IsStill machine.heap.collector m.heap.collector) (ap (λ by_hand. (if by_hand then quantum_run machine else says (reply.Spent 0 machine.heap.collector.phase) machine).state) (sym none)) (record { phase = refl; cycle = refl })
-event-still machine (event.Control asked) none = record { phase = refl; cycle = refl }
+event-still machine e none = grind arith
 
 -- and one with a quantum what that makes of it
 pub event-quantum : (machine : Machine) (e : Event) → has_quantum machine e ≡ true → (event_step machine e).state.heap.collector ≡ (quantum (half_step machine e).heap.config (half_step machine e).heap.collector).collector
 unfolding event_step control_step quantum_run
-event-quantum machine (event.Session who command) due = let half : Machine = (command_step machine who command).state in ap (λ test. (if test then (quantum_run half).state else half).heap.collector) due
-event-quantum machine (event.Control control.Quantum) due = ap (λ test. (if test then quantum_run machine else says (reply.Spent 0 machine.heap.collector.phase) machine).state.heap.collector) due
-event-quantum machine (event.Control asked) due = absurd (false≢true due)
+event-quantum machine e due = grind arith
 
 -- Behind a collector -----------------------------------------------------------------------------
 
@@ -77,7 +58,7 @@ module _ (config : Config) where
   Remembers events c = c.phase ≡ Defrag → Follows events c
 
   still-remembers : (events : List Event) (old new : Collector) → IsStill old new → Remembers events old → Remembers events new
-  still-remembers events old new still h defrags = let (begun, has, cycle, none) = h (sym still.phase ∙ defrags) in (begun, has, cycle ∙ sym still.cycle, none)
+  still-remembers events old new still h defrags = search arith
 
   -- after one event more it lies as far back
   later-follows : (events : List Event) (e : Event) (c : Collector) → Follows events c → Follows (events ++ e ∷ []) c
@@ -95,7 +76,7 @@ module _ (config : Config) where
     half-steady = collectors-steady.of_heaps half (moments_keep.half config events e).0
 
     half-remembers : Remembers events (machine_of events).heap.collector → Remembers events half.collector
-    half-remembers = still-remembers events (machine_of events).heap.collector half.collector (half-still (machine_of events) e)
+    half-remembers = grind (arith, still-remembers, half-still)
 
     quantum-follows : has_quantum (machine_of events) e ≡ true → Remembers events half.collector → IsInCycle half → in_trace after.phase ≡ false → Follows (events ++ e ∷ []) after
     quantum-follows runs h within ended =

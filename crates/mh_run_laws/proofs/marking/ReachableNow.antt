@@ -1,22 +1,13 @@
 -- While blocks are marked, what is reachable in the view now was reached by the snapshot or is born since, so the running cycle keeps it.
 -- That is why nothing reachable is lost as the sweep begins.
-use Rattle.std.proofs.Common.{◌≡◌, ℕ, true, inl, inr, Some, sym, ap, ◌∙◌, subst, arith}
-use Rattle.std.proofs.lemmas.Option.{same_Some}
-use Rattle.mh_model.specs.World.{World, object_at, slot_at, reference_of}
-use Rattle.mh_model.specs.Paths.{Refers, Reachable}
-use Rattle.mh_model.specs.Pages.{Table, block_at}
-use Rattle.mh_model.specs.Table.{Block, resolve}
-use Rattle.mh_model.specs.Mutator.{HeapState, in_roots_or_mark}
-use Rattle.mh_model.specs.View.{arraylet_words, object_of, heap_view}
-use Rattle.mh_model.specs.Snapshot.{IsKept}
-use Rattle.mh_model.specs.Invariant.{HeapKeeps}
+use Rattle.std.proofs.{Common.{◌≡◌, ℕ, true, inl, inr, Some, sym, ap, ◌∙◌, subst, arith}, lemmas.Option.same_Some}
+use Rattle.mh_model.specs.{World.{World, object_at, slot_at, reference_of}, Paths.{Refers, Reachable}}
+use Rattle.mh_model.specs.{Pages.{Table, block_at}, Table.{Block, resolve}, Mutator.{HeapState, in_roots_or_mark}}
+use Rattle.mh_model.specs.{View.{arraylet_words, object_of, heap_view}, Snapshot.IsKept, Invariant.HeapKeeps}
 use Rattle.mh_run_laws.proofs.worlds.Agreement.{Reachable-in}
-use Rattle.mh_laws.proofs.marking.MarkSteps.{runs}
-use Rattle.mh_laws.proofs.showing.ObjectsShown.{named-back, refers-back}
-use Rattle.mh_laws.proofs.OfTableLaws.JoinedFields.{an_arraylet, arraylet_count}
-use Rattle.mh_laws.proofs.snapshots.CycleStarts.{slot-view, shown_object}
-use Rattle.mh_laws.proofs.OfTableLaws.Lists.{below_length}
-use Rattle.mh_laws.proofs.marking.BlockChanges.{no_sweep}
+use Rattle.mh_laws.proofs.{marking.MarkSteps.runs, showing.ObjectsShown.{named-back, refers-back}}
+use Rattle.mh_laws.proofs.{snapshots.CycleStarts.{slot-view, shown_object}, marking.BlockChanges.no_sweep}
+use Rattle.mh_table_laws.proofs.{objects.JoinedFields.{an_arraylet, arraylet_count}, Lists.below_length}
 
 pub reachable_is_kept : (snapshot : World) (heap : HeapState) → in_roots_or_mark heap.collector.phase ≡ true → HeapKeeps snapshot heap → (birth : ℕ) → Reachable (heap_view heap) birth → IsKept snapshot heap.next_birth birth
 reachable_is_kept snapshot heap marks h birth (path, is_path) = Reachable-in (heap_view heap) (IsKept snapshot heap.next_birth) in_slots along path birth is_path

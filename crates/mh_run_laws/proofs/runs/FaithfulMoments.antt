@@ -1,32 +1,23 @@
 -- Runs beside the ever-growing world: if each command does on the pages what it does on what the heap shows, the view agrees with the world at each moment,
 -- half moments included: with the world of the commands that a full heap didn't refuse. The running cycle keeps as its snapshot the world as it started.
 -- The laws of `beside_the_world` follow: replies are the world's, moments are faithful, finished cycles are exact.
-use Rattle.std.proofs.Common.{◌≡◌, ℕ, ◌==◌, Bool, true, false, if◌then◌else◌, inl, inr, List, [], ◌∷◌, refl, sym, ap, ◌∙◌}
-use Rattle.std.proofs.lemmas.Bool.{false≢true, and_parts}
-use Rattle.std.proofs.lemmas.Option.{none-some}
-use Rattle.mh_model.specs.declared.config.Config.{Config}
-use Rattle.mh_model.specs.declared.command.Command.{Command}
-use Rattle.mh_model.specs.declared.command.Control.TheVariants as control
-use Rattle.mh_model.specs.declared.command.Event.{Event}
-use Rattle.mh_model.specs.declared.command.Event.TheVariants as event
-use Rattle.mh_model.specs.declared.reply.Reply.TheVariants as reply
-use Rattle.mh_model.specs.World.{World, first_world, says}
-use Rattle.mh_model.specs.Paths.{IsPath, Agrees}
-use Rattle.mh_model.specs.Collector.{is_idle, is_start_due, quantum}
+use Rattle.std.proofs.Common.{◌≡◌, ℕ, Bool, true, false, if◌then◌else◌, inl, inr, List, [], ◌∷◌, refl, sym, ap, ◌∙◌, arith}
+use Rattle.std.proofs.{lemmas.Bool.{false≢true, and_parts}, lemmas.Option.none-some}
+use Rattle.mh_model.specs.{declared.config.Config.Config, declared.command.Command.Command}
+use Rattle.mh_model.specs.{declared.command.Control.Control, declared.command.Event.Event, World.{World, first_world}}
+use Rattle.mh_model.specs.{Paths.{IsPath, Agrees}, Collector.{is_idle, is_start_due, quantum}}
 use Rattle.mh_model.specs.Mutator.{HeapState, mutator_step}
 use Rattle.mh_model.specs.Machine.{Machine, is_quantum_due, quantum_run, command_step, control_step, event_step}
 use Rattle.mh_model.specs.View.{heap_view}
 use Rattle.mh_model.specs.Snapshot.{Moment, first_moment, half_moment, next_moment, moment_after, is_heap_full, world_beside_event}
-use Rattle.mh_model.specs.Invariant.{HeapKeeps, IsKeeping, IsFinished}
-use Rattle.mh_model.specs.Limits.{root_slots}
+use Rattle.mh_model.specs.{Invariant.{HeapKeeps, IsKeeping, IsFinished}, Limits.root_slots}
 use Rattle.mh_run_laws.specs.BesideTheWorld.{IsFaithful, MomentsAreFaithful, RepliesAreTheWorlds, IsInCycle, FinishedCyclesAreExact}
 use Rattle.mh_run_laws.specs.Following.{Follows, has_no_place}
-use Rattle.mh_laws.proofs.OfTableLaws.Lists.{none_at}
+use Rattle.mh_table_laws.proofs.Lists.{none_at}
 use Rattle.mh_run_laws.proofs.worlds.FullHeaps.{heap_step-beside, heap_step-answers}
 use Rattle.mh_run_laws.proofs.showing.QuantaShow.{agrees-quantum}
-use Rattle.mh_laws.proofs.snapshots.CycleSteps.{continues-quantum}
 use Rattle.mh_run_laws.proofs.snapshots.AgreeingWorlds.{continues-start_agreeing, keeps-half_moment, keeps-next_moment}
-use Rattle.mh_laws.proofs.snapshots.RunningCycles.{keeps-first}
+use Rattle.mh_laws.proofs.{snapshots.CycleSteps.continues-quantum, snapshots.RunningCycles.keeps-first}
 use Rattle.mh_laws.proofs.costs.QuantumStarts.{idle_is}
 
 -- the first world reaches nothing
@@ -55,15 +46,14 @@ ends-exactly heap world snapshot agrees h false is (inl runs) ended = (continues
 
 module _ (follow : (heap : HeapState) → IsKeeping heap → (who : ℕ) (command : Command) → Follows heap who command) where
   agrees-command : (snapshot world : World) (heap : HeapState) → HeapKeeps snapshot heap → Agrees (heap_view heap) world → (who : ℕ) (command : Command)
-      → Agrees (heap_view (mutator_step heap who command).state) (world_beside_event world (event.Session who command) (mutator_step heap who command).reply)
+      → Agrees (heap_view (mutator_step heap who command).state) (world_beside_event world (Event.Session who command) (mutator_step heap who command).reply)
   agrees-command snapshot world heap keeps agrees who command =
       let same = follow heap (snapshot, keeps) who command in
       rw (same.state, same.reply) (heap_step-beside (has_no_place heap) (heap_view heap) world agrees who command)
 
   half-agrees : (moment : Moment) (e : Event) → IsFaithful moment → Agrees (heap_view (half_moment moment e).machine.heap) (half_moment moment e).world
   unfolding half_moment event_step command_step
-  half-agrees moment (event.Session who command) faithful = agrees-command moment.snapshot moment.world moment.machine.heap faithful.keeps faithful.agrees who command
-  half-agrees moment (event.Control control) faithful = faithful.agrees
+  half-agrees moment e faithful = grind (arith, agrees-command)
 
   agrees-quantum_run : (snapshot world : World) (machine : Machine) → HeapKeeps snapshot machine.heap → Agrees (heap_view machine.heap) world → Agrees (heap_view (quantum_run machine).state.heap) world
   unfolding quantum_run
@@ -71,21 +61,16 @@ module _ (follow : (heap : HeapState) → IsKeeping heap → (who : ℕ) (comman
 
   next-agrees : (moment : Moment) (e : Event) → IsFaithful moment → Agrees (heap_view (next_moment moment e).machine.heap) (next_moment moment e).world
   unfolding next_moment half_moment event_step control_step command_step
-  next-agrees moment (event.Session who command) faithful = go (is_quantum_due (command_step moment.machine who command).state)
+  next-agrees moment (Event.Session who command) faithful = go (is_quantum_due (command_step moment.machine who command).state)
     where
-      agrees : Agrees (heap_view (command_step moment.machine who command).state.heap) (world_beside_event moment.world (event.Session who command) (command_step moment.machine who command).reply)
-      agrees = half-agrees moment (event.Session who command) faithful
+      agrees : Agrees (heap_view (command_step moment.machine who command).state.heap) (world_beside_event moment.world (Event.Session who command) (command_step moment.machine who command).reply)
+      agrees = half-agrees moment (Event.Session who command) faithful
 
-      go : (due : Bool) → Agrees (heap_view (if due then (quantum_run (command_step moment.machine who command).state).state else (command_step moment.machine who command).state).heap) (world_beside_event moment.world (event.Session who command) (command_step moment.machine who command).reply)
-      go true = agrees-quantum_run moment.snapshot (world_beside_event moment.world (event.Session who command) (command_step moment.machine who command).reply) (command_step moment.machine who command).state (keeps-half_moment moment (event.Session who command) faithful.keeps) agrees
+      go : (due : Bool) → Agrees (heap_view (if due then (quantum_run (command_step moment.machine who command).state).state else (command_step moment.machine who command).state).heap) (world_beside_event moment.world (Event.Session who command) (command_step moment.machine who command).reply)
+      go true = agrees-quantum_run moment.snapshot (world_beside_event moment.world (Event.Session who command) (command_step moment.machine who command).reply) (command_step moment.machine who command).state (keeps-half_moment moment (Event.Session who command) faithful.keeps) agrees
       go false = agrees
-  next-agrees moment (event.Control control.Quantum) faithful = go (moment.machine.heap.config.every == 0)
-    where
-      go : (by_hand : Bool) → Agrees (heap_view (if by_hand then quantum_run moment.machine else says (reply.Spent 0 moment.machine.heap.collector.phase) moment.machine).state.heap) moment.world
-      go true = agrees-quantum_run moment.snapshot moment.world moment.machine faithful.keeps faithful.agrees
-      go false = faithful.agrees
-  next-agrees moment (event.Control control.Start) faithful = asked-agrees moment.machine.heap moment.world faithful.agrees
-  next-agrees moment (event.Control asked) faithful = faithful.agrees
+  next-agrees moment (Event.Control Control.Quantum) faithful = search (arith, agrees-quantum_run)
+  next-agrees moment e faithful = grind (arith, asked-agrees)
 
   faithful-after : (events : List Event) (moment : Moment) → IsFaithful moment → IsFaithful (moment_after moment events)
   unfolding moment_after

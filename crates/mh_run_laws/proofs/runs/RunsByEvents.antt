@@ -1,19 +1,13 @@
 -- Runs cut after some of their events.
-use Rattle.std.proofs.Common.{◌≡◌, suc, List, [], ◌∷◌, ◌++◌, Some, length, slice_get, refl, ap, ◌∙◌}
-use Rattle.mh_model.specs.declared.command.Event.{Event}
-use Rattle.mh_model.specs.declared.config.Config.{Config}
-use Rattle.mh_model.specs.World.{World}
+use Rattle.std.proofs.Common.{◌≡◌, suc, List, [], ◌∷◌, ◌++◌, Some, length, slice_get, refl, ap, arith}
+use Rattle.mh_model.specs.{declared.command.Event.Event, declared.config.Config.Config, World.World}
 use Rattle.mh_model.specs.Machine.{Machine, first_machine, event_step, machine_after, machine_replies}
 use Rattle.mh_model.specs.Snapshot.{world_beside, world_beside_event}
 use Rattle.mh_run_laws.proofs.forwarders.RunForwarders.{after-more, after-one}
-use Rattle.mh_run_laws.specs.Replays.{machine_at}
-use Rattle.mh_run_laws.specs.Replays.{MachineAfterMore, MachineRepliesMore}
+use Rattle.mh_run_laws.specs.Replays.{machine_at, MachineAfterMore, MachineRepliesMore}
 
 pub after_more : MachineAfterMore
-after_more = record {
-  events = after-more;
-  event = λ machine before event. after-more machine before (event ∷ []) ∙ after-one (machine_after machine before) event;
-}
+after_more = grind (arith, after-more, after-one)
 
 machine_replies-more : (machine : Machine) (before more : List Event) → machine_replies machine (before ++ more) ≡ machine_replies machine before ++ machine_replies (machine_after machine before) more
 unfolding machine_after machine_replies
@@ -25,10 +19,7 @@ unfolding machine_replies
 machine_replies-one machine event = refl
 
 pub replies_more : MachineRepliesMore
-replies_more = record {
-  events = machine_replies-more;
-  event = λ machine before event. machine_replies-more machine before (event ∷ []) ∙ ap (λ replies. machine_replies machine before ++ replies) (machine_replies-one (machine_after machine before) event);
-}
+replies_more = grind (arith, machine_replies-more, machine_replies-one)
 
 -- there is a reply to each event
 pub replies-length : (machine : Machine) (events : List Event) → length (machine_replies machine events) ≡ length events

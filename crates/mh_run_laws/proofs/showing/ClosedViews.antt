@@ -1,22 +1,14 @@
 -- What a kept heap shows is closed, and agrees with itself.
-use Rattle.std.proofs.Common.{◌≡◌, ℕ, ◌<◌, List, [], ◌∷◌, Option, Some, None, option_map, is_some, IsSome, get_or, length, refl, sym, ap, ◌∙◌, subst, arith}
+use Rattle.std.proofs.Common.{◌≡◌, ℕ, ◌<◌, List, [], ◌∷◌, Option, Some, None, option_map, is_some, IsSome, get_or, length, refl, sym, ap, ◌∙◌, arith}
 use Rattle.std.proofs.lemmas.Option.{none-some, same_Some}
 use Rattle.mh_model.specs.declared.shape.Shape.{Shape}
-use Rattle.mh_model.specs.World.{Object, World, IsClosed, object_at, slot_at, reference_of}
-use Rattle.mh_model.specs.Paths.{IsPath, Agrees}
-use Rattle.mh_model.specs.Pages.{block_at}
-use Rattle.mh_model.specs.Table.{Block, resolve, position_of}
-use Rattle.mh_model.specs.Collector.{Collector}
-use Rattle.mh_model.specs.Mutator.{HeapState}
-use Rattle.mh_model.specs.View.{block_of_birth, object_of, heap_view}
-use Rattle.mh_model.specs.Invariant.{IsPlainAt, IsSound, IsKeeping}
-use Rattle.mh_laws.proofs.OfTableLaws.Lists.{below_length}
-use Rattle.mh_laws.proofs.marking.BlockChanges.{resolve-live}
-use Rattle.mh_laws.proofs.OfTableLaws.Headers.{flat_of}
-use Rattle.mh_laws.proofs.OfTableLaws.JoinedFields.{shape_is, laid, has_fields, reference_read}
-use Rattle.mh_laws.proofs.showing.ObjectsShown.{named-back}
-use Rattle.mh_laws.proofs.showing.FoundBlocks.{found-first}
-use Rattle.mh_laws.proofs.showing.SamePlainBlocks.{plain-held, held-plain}
+use Rattle.mh_model.specs.{World.{Object, World, IsClosed, object_at, slot_at, reference_of}, Paths.{IsPath, Agrees}}
+use Rattle.mh_model.specs.{Pages.block_at, Table.{Block, resolve, position_of}, Collector.Collector, Mutator.HeapState}
+use Rattle.mh_model.specs.{View.{block_of_birth, object_of, heap_view}, Invariant.{IsPlainAt, IsSound, IsKeeping}}
+use Rattle.mh_table_laws.proofs.{Lists.below_length, objects.Headers.flat_of}
+use Rattle.mh_table_laws.proofs.objects.JoinedFields.{shape_is, laid, has_fields, reference_read}
+use Rattle.mh_laws.proofs.{marking.BlockChanges.resolve-live, showing.ObjectsShown.named-back}
+use Rattle.mh_laws.proofs.{showing.FoundBlocks.found-first, showing.SamePlainBlocks.{plain-held, held-plain}}
 use Rattle.mh_laws.proofs.snapshots.CycleStarts.{slot-view, view-shown, first-view}
 
 module _ (heap : HeapState) (keeping : IsKeeping heap) where
@@ -32,16 +24,10 @@ module _ (heap : HeapState) (keeping : IsKeeping heap) where
 
   -- a reference that leads to an object names one that is shown
   named-there : (reference birth : ℕ) (t : Block) → block_at c.table (resolve c.table reference) ≡ Some t → t.birth ≡ birth → (z : Block) → IsPlainAt c (resolve c.table reference) z → z.part ≡ 0 → IsSome (object_at (heap_view heap) birth)
-  named-there reference birth t there is z plain first =
-      let same : z ≡ t = same_Some z t (sym plain.there ∙ there) in
-      subst (λ b. IsSome (object_at (heap_view heap) b)) (ap (λ (x : Block). x.birth) same ∙ is) (shown-there (resolve c.table reference) z plain first)
+  named-there reference birth t there is z plain first = grind (arith, same_Some, shown-there)
 
   slots-there : (slot birth : ℕ) → slot_at (heap_view heap) slot ≡ Some birth → IsSome (object_at (heap_view heap) birth)
-  slots-there slot birth is =
-      let (r, t, at, there, b) = named-back c.table birth c.slots slot (sym (slot-view heap slot) ∙ is) in
-      let (z, plain, first) = h.slots slot r at in
-      let self : resolve c.table r ≡ r = resolve-live c.table r z plain.there plain.original in
-      named-there r birth t there b z (subst (λ q. IsPlainAt c q z) (sym self) plain) first
+  slots-there slot birth is = search (arith, named-back, slot-view, resolve-live, named-there)
 
   -- an object's reference
   field-there : (place : ℕ) (y : Block) → IsPlainAt c place y → y.part ≡ 0 → (field target : ℕ) → get_or (object_of c.table y).references field None ≡ Some target → IsSome (object_at (heap_view heap) target)
@@ -65,8 +51,7 @@ module _ (heap : HeapState) (keeping : IsKeeping heap) where
           field-there place y (held-plain heap.next_birth c h place y first.there first.held) first.first field target (ap (λ (x : Object). get_or x.references field None) (same_Some (object_of c.table y) object e) ∙ is)
 
       go : (o : Option Object) → object_at (heap_view heap) birth ≡ o → reference_of o field ≡ Some target → IsSome (object_at (heap_view heap) target)
-      go None at e = absurd (none-some target e)
-      go (Some object) at e = by object (block_of_birth c birth) refl (view-shown heap birth object at) e
+      go o at e = grind (arith, none-some, by, view-shown)
 
   pub closed-view : IsClosed (heap_view heap)
   closed-view = record { slots = slots-there; references = references-there }
@@ -78,11 +63,4 @@ path-there world closed (nearest ∷ path) birth ((field, refers), before) = clo
 
 -- What a kept heap shows agrees with itself
 pub self-agrees : (heap : HeapState) → IsKeeping heap → Agrees (heap_view heap) (heap_view heap)
-self-agrees heap keeping = record {
-  config = refl;
-  next_birth = refl;
-  slots = refl;
-  ended = refl;
-  objects = λ birth object there. there;
-  reached = λ birth way. path-there (heap_view heap) (closed-view heap keeping) way.0 birth way.1;
-}
+self-agrees heap keeping = grind (arith, path-there, closed-view)

@@ -1,16 +1,12 @@
 -- The steps that scan roots and mark change nothing of what the heap shows.
 use Rattle.std.proofs.Common.{◌≡◌, ℕ, zero, suc, ◌+◌, true, false, inl, List, [], ◌∷◌, get_or, set, map, Option, Some, None, option_map, unwrap_or, refl, sym, ap, ◌∙◌, subst, arith}
-use Rattle.mh_model.specs.declared.cycle.Phase.TheVariants.{Roots}
-use Rattle.mh_model.specs.World.{Object, World}
-use Rattle.mh_model.specs.Pages.{Table, block_at, with_block}
+use Rattle.mh_model.specs.{declared.cycle.Phase.TheVariants.Roots, World.World, Pages.{Table, block_at, with_block}}
 use Rattle.mh_model.specs.Table.{Block, references_at, with_reference_at, resolve, target_of}
 use Rattle.mh_model.specs.Collector.{Collector, Marking, mark_reference, mark_references, mark_first, mark_step, marking_of, with_marking, roots_step}
-use Rattle.mh_model.specs.Mutator.{HeapState, in_roots_or_mark}
-use Rattle.mh_model.specs.View.{in_sweep, birth_named, object_shown, heap_view}
+use Rattle.mh_model.specs.{Mutator.{HeapState, in_roots_or_mark}, View.{in_sweep, birth_named, object_shown, heap_view}}
 use Rattle.mh_model.specs.Invariant.{IsIn, IsPlainAt, IsSound, KeepsSnapshot, HeapKeeps}
 use Rattle.mh_laws.proofs.marking.BlockChanges.{resolve-live, not_sweep, no_sweep}
 use Rattle.mh_laws.proofs.marking.MarkSteps.{leads, snapshot-mark_step, snapshot-roots_step}
-use Rattle.mh_laws.proofs.showing.FoundBlocks.{tabulate-same}
 use Rattle.mh_run_laws.proofs.showing.AlikeTables.{bare, IsAlike, resolve-alike, roots-alike, alike-with_block, alike-forth, alike-shade, read-map, alike-shown, with_shade-alike}
 
 -- What shows the same ----------------------------------------------------------------------------
@@ -19,9 +15,7 @@ use Rattle.mh_run_laws.proofs.showing.AlikeTables.{bare, IsAlike, resolve-alike,
 pub same-view : (heap : HeapState) (d : Collector) → ((birth : ℕ) → object_shown d birth ≡ object_shown heap.collector birth) → map (birth_named d.table) d.slots ≡ map (birth_named heap.collector.table) heap.collector.slots
     → heap_view (record heap { collector = d }) ≡ heap_view heap
 unfolding heap_view
-same-view heap d objects slots =
-    ap {A = List (Option Object)} (λ xs. record { config = heap.config; objects = xs; slots = map (birth_named d.table) d.slots; ended = heap.ended }) (tabulate-same (object_shown heap.collector) (object_shown d) objects 0 heap.next_birth)
-    ∙ ap {A = List (Option ℕ)} (λ xs. record { config = heap.config; objects = (heap_view heap).objects; slots = xs; ended = heap.ended }) slots
+same-view heap d objects slots = grind arith
 
 -- two states of which no one is in the sweep, with alike tables
 pub alike-view : (snapshot : World) (heap : HeapState) (d : Collector) → in_sweep heap.collector.phase ≡ false → in_sweep d.phase ≡ false → HeapKeeps snapshot heap → KeepsSnapshot snapshot heap.next_birth d → d.slots ≡ heap.collector.slots
@@ -37,9 +31,8 @@ alike-view snapshot heap d no_sweep no_sweep' h k slots alike =
 
 module _ (first : Table Block) where
   set-same : (xs : List (Option ℕ)) (i : ℕ) (y : Option ℕ) → option_map (resolve first) y ≡ get_or (map (option_map (resolve first)) xs) i None → map (option_map (resolve first)) (set xs i y) ≡ map (option_map (resolve first)) xs
-  set-same [] i y e = refl
-  set-same (x ∷ xs) zero y e = ap (λ z. z ∷ map (option_map (resolve first)) xs) e
   set-same (x ∷ xs) (suc i) y e = ap (λ zs. option_map (resolve first) x ∷ zs) (set-same xs i y e)
+  set-same xs i y e = grind arith
 
   module _ (g : ℕ) (b : Block) (there : block_at first g ≡ Some b) (twice : (i r : ℕ) → get_or b.references i None ≡ Some r → resolve first (resolve first r) ≡ resolve first r) where
     -- a reference is resolved and written back
@@ -52,12 +45,10 @@ module _ (first : Table Block) where
         (alike-with_block first table g x (record x { references = set x.references index (target_of table o) }) at (ap {A = List (Option ℕ)} (λ zs. record x { stamp = 0; references = zs }) (set-same x.references index (target_of table o) (leads_so x same o read))) alike)
       where
         to_same : (p : Option ℕ) → get_or b.references index None ≡ p → option_map (resolve first) (target_of table p) ≡ option_map (resolve first) p
-        to_same None e = refl
-        to_same (Some r) e = ap Some (ap (resolve first) (resolve-alike first table alike r) ∙ twice index r e)
+        to_same p e = grind (arith, resolve-alike)
 
         leads_so : (x : Block) → bare first x ≡ bare first b → (p : Option ℕ) → get_or b.references index None ≡ p → option_map (resolve first) (target_of table p) ≡ get_or (map (option_map (resolve first)) x.references) index None
-        leads_so x same p e =
-            to_same p e ∙ ap (option_map (resolve first)) (sym e) ∙ sym (read-map first b.references index) ∙ ap (λ (z : Block). get_or z.references index None) (sym same)
+        leads_so x same p e = grind (arith, to_same, read-map)
 
     alike-references : (refs : List (Option ℕ)) (m : Marking) (index : ℕ) → ((k : ℕ) → get_or b.references (index + k) None ≡ get_or refs k None) → IsAlike first m.table → IsAlike first (mark_references m g index refs).table
     alike-references [] m index ahead alike = alike
@@ -94,17 +85,7 @@ alike-mark_step n c marks h = go c.grey refl
 
 -- A mark step shows the same
 pub view-mark_step : (snapshot : World) (heap : HeapState) → in_roots_or_mark heap.collector.phase ≡ true → HeapKeeps snapshot heap → heap_view (record heap { collector = with_marking heap.collector (mark_step (marking_of heap.collector)) }) ≡ heap_view heap
-view-mark_step snapshot heap marks h =
-    alike-view
-    snapshot
-    heap
-    (with_marking heap.collector (mark_step (marking_of heap.collector)))
-    (no_sweep heap.collector.phase marks)
-    (no_sweep heap.collector.phase marks)
-    h
-    (snapshot-mark_step snapshot heap.next_birth heap.collector marks h)
-    refl
-    (alike-mark_step heap.next_birth heap.collector marks h.sound)
+view-mark_step snapshot heap marks h = search (arith, alike-view, no_sweep, snapshot-mark_step, alike-mark_step)
 
 -- And so does a roots step
 pub view-roots_step : (snapshot : World) (heap : HeapState) → heap.collector.phase ≡ Roots → HeapKeeps snapshot heap → heap_view (record heap { collector = roots_step heap.collector }) ≡ heap_view heap

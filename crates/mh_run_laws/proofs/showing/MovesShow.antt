@@ -1,14 +1,10 @@
 -- Steps of defragmentation change nothing of what the heap shows.
 use Rattle.std.proofs.Common.{◌≡◌, ℕ, zero, suc, List, [], ◌∷◌, get_or, map, Option, Some, None, option_map, refl, sym, ap, ◌∙◌, subst}
 use Rattle.std.proofs.lemmas.Bool.{false≢true}
-use Rattle.mh_model.specs.declared.cycle.Phase.TheVariants.{Defrag}
-use Rattle.mh_model.specs.World.{World}
-use Rattle.mh_model.specs.Pages.{Table, block_at}
+use Rattle.mh_model.specs.{declared.cycle.Phase.TheVariants.Defrag, World.World, Pages.{Table, block_at}}
 use Rattle.mh_model.specs.Table.{Block, resolve}
 use Rattle.mh_model.specs.Collector.{Collector, Move, flagged_page, next_move, moved_table, forwarded_slots, with_phase, with_move, defrag_step, next_place}
-use Rattle.mh_model.specs.Mutator.{HeapState}
-use Rattle.mh_model.specs.View.{in_sweep, birth_named, heap_view}
-use Rattle.mh_model.specs.Invariant.{IsSound, HeapKeeps}
+use Rattle.mh_model.specs.{Mutator.HeapState, View.{in_sweep, birth_named, heap_view}, Invariant.{IsSound, HeapKeeps}}
 use Rattle.mh_laws.proofs.marking.BlockChanges.{resolve-live, live_plain}
 use Rattle.mh_laws.proofs.moving.MoveSteps.{IsMove, move-is, follows, live_from, live_forth, snapshot-defrag_step}
 use Rattle.mh_laws.proofs.showing.SamePlainBlocks.{plain-shown}

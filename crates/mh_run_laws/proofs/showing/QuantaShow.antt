@@ -1,20 +1,14 @@
 -- Quanta: a view that agrees with a world agrees with it after them.
 use Rattle.std.proofs.Common.{◌≡◌, ℕ, zero, suc, ◌+◌, ◌-◌, nat_lt, Bool, false, ◌||◌, inl, inr, refl, sym, ap, ◌∙◌, subst}
 use Rattle.std.proofs.lemmas.Bool.{false≢true, cases_Bool, or_parts}
-use Rattle.mh_model.specs.declared.cycle.Phase.TheVariants.{Idle}
-use Rattle.mh_model.specs.World.{World}
-use Rattle.mh_model.specs.Paths.{Agrees}
+use Rattle.mh_model.specs.{declared.cycle.Phase.TheVariants.Idle, World.World, Paths.Agrees}
 use Rattle.mh_model.specs.Collector.{Collector, collector_step, step_cost, is_moving, is_idle, cycle_start, quantum_start, steps, quantum}
-use Rattle.mh_model.specs.Mutator.{HeapState}
-use Rattle.mh_model.specs.View.{in_sweep, heap_view}
-use Rattle.mh_model.specs.Invariant.{KeepsSnapshot, HeapKeeps}
+use Rattle.mh_model.specs.{Mutator.HeapState, View.{in_sweep, heap_view}, Invariant.{KeepsSnapshot, HeapKeeps}}
 use Rattle.mh_laws.proofs.costs.Quanta.{steps-stop, steps-go}
 use Rattle.mh_laws.proofs.snapshots.CycleSteps.{continues-collector_step, snapshot-counted}
-use Rattle.mh_laws.proofs.snapshots.CycleStarts.{snapshot-started}
-use Rattle.mh_laws.proofs.showing.SamePlainBlocks.{plain-shown}
-use Rattle.mh_run_laws.proofs.showing.MarkingShows.{same-view}
-use Rattle.mh_run_laws.proofs.showing.StepsShow.{agrees-collector_step}
+use Rattle.mh_laws.proofs.{snapshots.CycleStarts.snapshot-started, showing.SamePlainBlocks.plain-shown}
 use Rattle.mh_laws.proofs.costs.QuantumStarts.{quantum-rests, begins}
+use Rattle.mh_run_laws.proofs.showing.{MarkingShows.same-view, StepsShow.agrees-collector_step}
 
 -- Steps of a quantum
 agrees-steps : (snapshot world : World) (more left : ℕ) (has_moved : Bool) (heap : HeapState) → HeapKeeps snapshot heap → Agrees (heap_view heap) world → Agrees (heap_view (record heap { collector = (steps more left has_moved heap.collector).collector })) world

@@ -1,40 +1,27 @@
 -- Steps of the collector: a view that agrees with a world agrees with it after them. Only as the sweep begins may it lose anything, and then only what isn't reachable.
-use Rattle.std.proofs.Common.{◌≡◌, ℕ, ◌==◌, if◌then◌else◌, Bool, true, false, List, [], ◌∷◌, Option, Some, None, option_map, IsSome, refl, sym, ap, ◌∙◌, subst, arith, eqb-true}
-use Rattle.std.proofs.lemmas.Bool.{false≢true}
-use Rattle.std.proofs.lemmas.Option.{none-some, same_Some}
-use Rattle.std.proofs.lemmas.List.{get_or_past}
+use Rattle.std.proofs.Common.{◌≡◌, ℕ, true, false, List, [], ◌∷◌, Some, None, IsSome, refl, sym, ap, ◌∙◌, subst, arith, eqb-true}
+use Rattle.std.proofs.{lemmas.Bool.false≢true, lemmas.Option.none-some, lemmas.List.get_or_past}
 use Rattle.mh_model.specs.declared.cycle.Phase.{Phase}
-use Rattle.mh_model.specs.declared.cycle.Phase.TheVariants.{Idle, Roots, Mark, Sweep, Defrag}
-use Rattle.mh_model.specs.World.{Object, World}
-use Rattle.mh_model.specs.Paths.{Agrees}
-use Rattle.mh_model.specs.Pages.{block_at}
-use Rattle.mh_model.specs.Table.{Block}
+use Rattle.mh_model.specs.{declared.cycle.Phase.TheVariants.{Idle, Roots, Mark, Sweep, Defrag}, World.{Object, World}}
+use Rattle.mh_model.specs.{Paths.Agrees, Pages.block_at, Table.Block}
 use Rattle.mh_model.specs.Collector.{Collector, mark_step, marking_of, with_marking, with_phase, roots_step, sweep_step, defrag_step, after_mark, is_past, cycle_end, phase_after, step_in, collector_step, is_idle}
 use Rattle.mh_model.specs.Mutator.{HeapState, in_roots_or_mark, in_roots}
 use Rattle.mh_model.specs.View.{in_sweep, block_of_birth, object_of, object_shown, heap_view}
 use Rattle.mh_model.specs.Invariant.{IsPlainAt, IsFromRoot, IsSound, KeepsSnapshot, HeapKeeps}
-use Rattle.mh_model.specs.Limits.{root_slots}
-use Rattle.mh_laws.proofs.marking.BlockChanges.{not_sweep}
-use Rattle.mh_laws.proofs.marking.MarkSteps.{snapshot-roots_step, snapshot-mark_step}
+use Rattle.mh_laws.proofs.{marking.BlockChanges.not_sweep, marking.MarkSteps.{snapshot-roots_step, snapshot-mark_step}}
 use Rattle.mh_laws.proofs.sweeping.SweepSteps.{snapshot-sweeping, snapshot-after_mark, snapshot-sweep_step, snapshot-after_sweep}
 use Rattle.mh_laws.proofs.moving.MoveSteps.{snapshot-defrag_step, snapshot-cycle_end}
 use Rattle.mh_laws.proofs.snapshots.CycleStarts.{births-view, view-shown, first-view}
-use Rattle.mh_run_laws.proofs.marking.ReachableNow.{reachable_is_kept}
-use Rattle.mh_run_laws.proofs.snapshots.AgreeingWorlds.{reachable-view}
 use Rattle.mh_laws.proofs.showing.FoundBlocks.{held_live, found-first}
 use Rattle.mh_laws.proofs.showing.SamePlainBlocks.{IsCarriedTo, plain-held, plain-shown}
+use Rattle.mh_run_laws.proofs.{marking.ReachableNow.reachable_is_kept, snapshots.AgreeingWorlds.reachable-view}
 use Rattle.mh_run_laws.proofs.showing.MarkingShows.{same-view, view-mark_step, view-roots_step}
-use Rattle.mh_run_laws.proofs.showing.SweepShows.{view-sweep_step}
-use Rattle.mh_run_laws.proofs.showing.MovesShow.{view-defrag_step}
+use Rattle.mh_run_laws.proofs.{showing.SweepShows.view-sweep_step, showing.MovesShow.view-defrag_step}
 
 -- Reading a view ---------------------------------------------------------------------------------
 
 shown-block : (c : Collector) (birth : ℕ) (object : Object) → object_shown c birth ≡ Some object → (y : Block) × (block_of_birth c birth ≡ Some y) × (object_of c.table y ≡ object)
-shown-block c birth object e = go (block_of_birth c birth) refl e
-  where
-    go : (o : Option Block) → block_of_birth c birth ≡ o → option_map (object_of c.table) o ≡ Some object → (y : Block) × (block_of_birth c birth ≡ Some y) × (object_of c.table y ≡ object)
-    go None is f = absurd (none-some object f)
-    go (Some y) is f = (y, is, same_Some (object_of c.table y) object f)
+shown-block c birth object e = grind arith
 
 config-view : (heap : HeapState) (d : Collector) → (heap_view (record heap { collector = d })).config ≡ (heap_view heap).config
 unfolding heap_view
@@ -119,7 +106,7 @@ module _ (snapshot world : World) where
       k = snapshot-sweeping snapshot heap.next_birth heap.collector marks no_grey no_root h
 
       plain_now : (p : ℕ) (y : Block) → block_at heap.collector.table p ≡ Some y → y.forward ≡ None → IsPlainAt heap.collector p y
-      plain_now p y there live = record { there = there; original = live; surviving = λ s. absurd (not_sweep heap.collector.phase marks s) }
+      plain_now p y there live = grind arith
 
   -- marking goes on or ends
   agrees-after_mark : (heap : HeapState) → in_roots_or_mark heap.collector.phase ≡ true → ((q : ℕ) → IsFromRoot heap.collector q → ⊥) → HeapKeeps snapshot heap → Agrees (heap_view heap) world → Agrees (heap_view (record heap { collector = after_mark heap.collector heap.collector.grey })) world
@@ -127,35 +114,16 @@ module _ (snapshot world : World) where
     where
       go : (grey : List ℕ) → heap.collector.grey ≡ grey → IsSound heap.next_birth (after_mark heap.collector grey) → Agrees (heap_view (record heap { collector = after_mark heap.collector grey })) world
       go [] is k = agrees-sweeping heap marks is no_root h agrees
-      go (g ∷ grey) is k = subst (λ v. Agrees v world) (sym (turned-view heap Mark 0 heap.collector.quanta h.sound k
-          (λ p x plain. (p, record { there = plain.there; original = plain.original; surviving = λ s. absurd (false≢true s) }))
-          (λ p x plain. (p, record { there = plain.there; original = plain.original; surviving = λ s. absurd (not_sweep heap.collector.phase marks s) })))) agrees
+      go (g ∷ grey) is k = subst (λ v. Agrees v world) (grind (arith, turned-view, k, false≢true, not_sweep)) agrees
 
   agrees-after_roots : (heap : HeapState) → heap.collector.phase ≡ Roots → HeapKeeps snapshot heap → Agrees (heap_view heap) world → Agrees (heap_view (record heap { collector = phase_after Roots heap.collector })) world
-  agrees-after_roots heap phase h agrees = go (heap.collector.cursor == root_slots) refl
-    where
-      no_root : heap.collector.cursor ≡ root_slots → (q : ℕ) → IsFromRoot heap.collector q → ⊥
-      no_root last q from =
-          let (i, r, after, at, to) = from.1 in
-          absurd (none-some r (sym (get_or_past heap.collector.slots i None (omega (arith, h.sound.roots, after, last))) ∙ at))
-
-      go : (b : Bool) → (heap.collector.cursor == root_slots) ≡ b → Agrees (heap_view (record heap { collector = if b then after_mark heap.collector heap.collector.grey else heap.collector })) world
-      go true e = agrees-after_mark heap (ap in_roots_or_mark phase) (no_root (eqb-true heap.collector.cursor root_slots e)) h agrees
-      go false e = agrees
+  agrees-after_roots heap phase h agrees = search (arith, none-some, get_or_past, agrees-after_mark, eqb-true)
 
   agrees-after_sweep : (heap : HeapState) → heap.collector.phase ≡ Sweep → HeapKeeps snapshot heap → Agrees (heap_view heap) world → Agrees (heap_view (record heap { collector = phase_after Sweep heap.collector })) world
-  agrees-after_sweep heap phase h agrees = go (is_past heap.collector.table heap.collector.cursor) refl
-    where
-      go : (b : Bool) → is_past heap.collector.table heap.collector.cursor ≡ b → Agrees (heap_view (record heap { collector = if b then with_phase heap.collector Defrag 0 else heap.collector })) world
-      go false e = agrees
-      go true e = subst (λ v. Agrees v world) (sym (view-after_sweep snapshot heap phase e h)) agrees
+  agrees-after_sweep heap phase h agrees = search (arith, view-after_sweep)
 
   agrees-after_defrag : (heap : HeapState) → heap.collector.phase ≡ Defrag → HeapKeeps snapshot heap → Agrees (heap_view heap) world → Agrees (heap_view (record heap { collector = phase_after Defrag heap.collector })) world
-  agrees-after_defrag heap phase h agrees = go (is_past heap.collector.table heap.collector.cursor)
-    where
-      go : (b : Bool) → Agrees (heap_view (record heap { collector = if b then cycle_end heap.collector else heap.collector })) world
-      go false = agrees
-      go true = subst (λ v. Agrees v world) (sym (view-cycle_end snapshot heap phase h)) agrees
+  agrees-after_defrag heap phase h agrees = search (arith, view-cycle_end)
 
   -- A step of the collector
   pub agrees-collector_step : (heap : HeapState) → is_idle heap.collector.phase ≡ false → HeapKeeps snapshot heap → Agrees (heap_view heap) world → Agrees (heap_view (record heap { collector = collector_step heap.collector })) world

@@ -1,12 +1,7 @@
 -- Sweep steps, and the passages that follow the sweep and defragmentation, change nothing of what the heap shows.
 use Rattle.std.proofs.Common.{◌≡◌, sym, ap, ◌∙◌}
-use Rattle.mh_model.specs.declared.cycle.Phase.TheVariants.{Sweep}
-use Rattle.mh_model.specs.World.{World}
-use Rattle.mh_model.specs.Pages.{block_at}
-use Rattle.mh_model.specs.Collector.{Collector, sweep_step}
-use Rattle.mh_model.specs.Mutator.{HeapState}
-use Rattle.mh_model.specs.View.{heap_view}
-use Rattle.mh_model.specs.Invariant.{HeapKeeps}
+use Rattle.mh_model.specs.{declared.cycle.Phase.TheVariants.Sweep, World.World, Pages.block_at}
+use Rattle.mh_model.specs.{Collector.{Collector, sweep_step}, Mutator.HeapState, View.heap_view, Invariant.HeapKeeps}
 use Rattle.mh_laws.proofs.marking.BlockChanges.{resolve-live}
 use Rattle.mh_laws.proofs.sweeping.SweepSteps.{plain_forth, plain_back, referred_then, snapshot-sweep_step}
 use Rattle.mh_laws.proofs.showing.SamePlainBlocks.{plain-shown, roots-same}

@@ -1,36 +1,25 @@
 -- A view that agrees with a world reaches what the world reaches, so that either may be taken as the snapshot.
-use Rattle.std.proofs.Common.{◌≡◌, ℕ, ◌≤◌, ◌==◌, if◌then◌else◌, Bool, true, false, inl, inr, List, [], ◌∷◌, Option, Some, None, get_or, refl, sym, ap, ◌∙◌, subst}
+use Rattle.std.proofs.Common.{◌≡◌, ℕ, ◌≤◌, if◌then◌else◌, Bool, true, false, inl, inr, List, [], ◌∷◌, Option, Some, None, get_or, refl, sym, ap, ◌∙◌, subst, arith}
 use Rattle.std.proofs.lemmas.Bool.{and_parts, cases_Bool}
-use Rattle.std.proofs.lemmas.Option.{none-some}
-use Rattle.mh_laws.proofs.OfTableLaws.Lists.{from_some}
-use Rattle.mh_model.specs.declared.cycle.Phase.TheVariants.{Idle}
-use Rattle.mh_model.specs.declared.command.Control.TheVariants as control
-use Rattle.mh_model.specs.declared.command.Event.{Event}
-use Rattle.mh_model.specs.declared.command.Event.TheVariants as event
-use Rattle.mh_model.specs.declared.reply.Reply.TheVariants as reply
-use Rattle.mh_model.specs.World.{Object, World, says, object_at, reference_of}
-use Rattle.mh_model.specs.Paths.{IsPath, Reachable, Agrees}
-use Rattle.mh_model.specs.Collector.{Collector, is_idle, is_start_due, quantum}
-use Rattle.mh_model.specs.Mutator.{HeapState}
-use Rattle.mh_model.specs.View.{heap_view}
+use Rattle.mh_table_laws.proofs.Lists.{from_some}
+use Rattle.mh_model.specs.{declared.cycle.Phase.TheVariants.Idle, declared.command.Control.Control}
+use Rattle.mh_model.specs.{declared.command.Event.Event, World.{Object, World, object_at, reference_of}}
+use Rattle.mh_model.specs.{Paths.{IsPath, Reachable, Agrees}, Collector.{Collector, is_idle, is_start_due, quantum}}
+use Rattle.mh_model.specs.{Mutator.HeapState, View.heap_view}
 use Rattle.mh_model.specs.Machine.{Machine, quantum_run, is_quantum_due, command_step, control_step, event_step}
 use Rattle.mh_model.specs.Snapshot.{Moment, half_moment, next_moment, IsKept}
 use Rattle.mh_model.specs.Invariant.{IsSound, KeepsSnapshot, IsFinished, Continues, HeapKeeps}
 use Rattle.mh_laws.proofs.snapshots.CycleSteps.{continues-quantum, snapshot-counted}
-use Rattle.mh_laws.proofs.snapshots.SessionCommands.{snapshot-mutator_step}
-use Rattle.mh_laws.proofs.snapshots.RunningCycles.{continues-start}
+use Rattle.mh_laws.proofs.{snapshots.SessionCommands.snapshot-mutator_step, snapshots.RunningCycles.continues-start}
 use Rattle.mh_laws.proofs.costs.QuantumStarts.{idle_is, quantum-rests}
 
 has_object : (o : Option Object) (field birth : ℕ) → reference_of o field ≡ Some birth → (object : Object) × (o ≡ Some object)
-has_object None field birth e = absurd (none-some birth e)
-has_object (Some object) field birth e = (object, refl)
+has_object o field birth e = grind arith
 
 module _ (view world : World) (agrees : Agrees view world) where
   path-world : (path : List ℕ) (birth : ℕ) → IsPath view birth path → IsPath world birth path
   path-world [] birth (slot, e) = (slot, ap (λ slots. get_or slots slot None) (sym agrees.slots) ∙ e)
-  path-world (nearest ∷ path) birth ((field, e), after) =
-      let (object, is) = has_object (object_at view nearest) field birth e in
-      ((field, ap (λ o. reference_of o field) (agrees.objects nearest object is ∙ sym is) ∙ e), path-world path nearest after)
+  path-world (nearest ∷ path) birth ((field, e), after) = grind (arith, has_object, path-world path nearest after)
 
   path-view : (path : List ℕ) (birth : ℕ) → IsPath world birth path → IsPath view birth path
   path-view [] birth (slot, e) = (slot, ap (λ slots. get_or slots slot None) agrees.slots ∙ e)
@@ -45,12 +34,10 @@ module _ (view world : World) (agrees : Agrees view world) where
   reachable-view birth (path, is) = (path, path-view path birth is)
 
   kept-world : (n birth : ℕ) → IsKept view n birth → IsKept world n birth
-  kept-world n birth (inl reached) = inl (reachable-world birth reached)
-  kept-world n birth (inr since) = inr (subst (λ b. b ≤ birth) agrees.next_birth since.0, since.1)
+  kept-world n birth is = grind (arith, reachable-world)
 
   kept-view : (n birth : ℕ) → IsKept world n birth → IsKept view n birth
-  kept-view n birth (inl reached) = inl (reachable-view birth reached)
-  kept-view n birth (inr since) = inr (subst (λ b. b ≤ birth) (sym agrees.next_birth) since.0, since.1)
+  kept-view n birth is = grind (arith, reachable-view)
 
   -- what keeps the view as its snapshot keeps the world
   pub snapshot-agreeing : (n : ℕ) (c : Collector) → KeepsSnapshot view n c → KeepsSnapshot world n c
@@ -103,27 +90,23 @@ keeps-quantum_run machine world snapshot agrees h = keeps-quantum machine.heap w
 -- the half moment of an event keeps the snapshot
 pub keeps-half_moment : (moment : Moment) (e : Event) → HeapKeeps moment.snapshot moment.machine.heap → HeapKeeps (half_moment moment e).snapshot (half_moment moment e).machine.heap
 unfolding half_moment command_step
-keeps-half_moment moment (event.Session who command) h = snapshot-mutator_step moment.snapshot moment.machine.heap h who command
-keeps-half_moment moment (event.Control control) h = h
+keeps-half_moment moment (Event.Session who command) h = snapshot-mutator_step moment.snapshot moment.machine.heap h who command
+keeps-half_moment moment (Event.Control control) h = h
 
 -- And so does the event, if the view agrees with the world at its half moment
 pub keeps-next_moment : (moment : Moment) (e : Event) → Agrees (heap_view (half_moment moment e).machine.heap) (half_moment moment e).world → HeapKeeps moment.snapshot moment.machine.heap → HeapKeeps (next_moment moment e).snapshot (next_moment moment e).machine.heap
 unfolding next_moment half_moment event_step control_step command_step
-keeps-next_moment moment (event.Session who command) agrees h = go (is_quantum_due (command_step moment.machine who command).state)
+keeps-next_moment moment (Event.Session who command) agrees h = go (is_quantum_due (command_step moment.machine who command).state)
   where
     after : Machine
     after = (command_step moment.machine who command).state
 
     world : World
-    world = (half_moment moment (event.Session who command)).world
+    world = (half_moment moment (Event.Session who command)).world
 
     go : (due : Bool) → HeapKeeps (if due then (if is_start_due after.heap.config after.heap.collector then world else moment.snapshot) else moment.snapshot) (if due then (quantum_run after).state else after).heap
     go true = keeps-quantum_run after world moment.snapshot agrees (snapshot-mutator_step moment.snapshot moment.machine.heap h who command)
     go false = snapshot-mutator_step moment.snapshot moment.machine.heap h who command
-keeps-next_moment moment (event.Control control.Quantum) agrees h = go (moment.machine.heap.config.every == 0)
-  where
-    go : (by_hand : Bool) → HeapKeeps (if by_hand then (if is_start_due moment.machine.heap.config moment.machine.heap.collector then moment.world else moment.snapshot) else moment.snapshot) (if by_hand then quantum_run moment.machine else says (reply.Spent 0 moment.machine.heap.collector.phase) moment.machine).state.heap
-    go true = keeps-quantum_run moment.machine moment.world moment.snapshot agrees h
-    go false = h
-keeps-next_moment moment (event.Control control.Start) agrees h = snapshot-counted moment.snapshot moment.machine.heap.next_birth moment.machine.heap.collector true moment.machine.heap.collector.quanta h
-keeps-next_moment moment (event.Control asked) agrees h = h
+keeps-next_moment moment (Event.Control Control.Quantum) agrees h = grind (arith, keeps-quantum_run)
+keeps-next_moment moment (Event.Control Control.Start) agrees h = search (arith, snapshot-counted)
+keeps-next_moment moment (Event.Control asked) agrees h = h

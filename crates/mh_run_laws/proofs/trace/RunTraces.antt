@@ -1,28 +1,16 @@
 -- The trace of a run: no quantum spends more than is configured, and one is run after each so many units of the mutator.
-use Rattle.std.proofs.Common.{◌≡◌, ℕ, ◌<◌, ◌≤◌, ◌==◌, nat_le, not, Bool, true, false, if◌then◌else◌, Some, List, [], ◌∷◌, ◌++◌, replicate, refl, sym, ap, ◌∙◌, subst, arith, append_assoc}
+use Rattle.std.proofs.Common.{◌≡◌, ℕ, ◌<◌, ◌≤◌, nat_le, true, if◌then◌else◌, List, [], ◌∷◌, ◌++◌, replicate, refl, sym, ap, ◌∙◌, subst, arith, append_assoc}
+use Rattle.std.proofs.{Math.Nat.max-le, lemmas.Bool.{leb-true, eqb-true, and_parts}, lemmas.Grind.flat_map-append}
+use Rattle.std.proofs.lemmas.List.{append-nil, replicate-append-replicate}
 use Rattle.std.specs.List.{AllByRecursion}
-use Rattle.std.proofs.Math.Nat.{max-le}
-use Rattle.std.proofs.lemmas.Bool.{leb-true, eqb-true, and_parts}
-use Rattle.std.proofs.lemmas.Grind.{flat_map-append}
-use Rattle.std.proofs.lemmas.List.{append-nil}
-use Rattle.std.proofs.lemmas.List.{replicate-append-replicate}
-use Rattle.mh_model.specs.declared.command.Command.{Command}
-use Rattle.mh_model.specs.declared.command.Control.{Control}
-use Rattle.mh_model.specs.declared.command.Control.TheVariants as control
-use Rattle.mh_model.specs.declared.command.Event.{Event}
-use Rattle.mh_model.specs.declared.command.Event.TheVariants as event
-use Rattle.mh_model.specs.declared.config.Config.{Config}
-use Rattle.mh_model.specs.declared.reply.Reply.TheVariants as reply
-use Rattle.mh_model.specs.World.{says}
-use Rattle.mh_model.specs.Trace.{M, C, least_mutator}
-use Rattle.mh_model.specs.Collector.{quantum}
+use Rattle.mh_model.specs.{declared.command.Command.Command, declared.command.Control.Control}
+use Rattle.mh_model.specs.{declared.command.Event.Event, declared.config.Config.Config, Trace.{M, C}, Collector.quantum}
 use Rattle.mh_model.specs.Mutator.{mutator_step}
 use Rattle.mh_model.specs.Machine.{Machine, command_units, first_machine, with_collector, is_quantum_due, quantum_run, command_step, control_step, half_step, event_step, machine_after}
 use Rattle.mh_run_laws.specs.Utilisation.{QuantaStayWithinTheirBound, HasShare, MutatorHasItsShare}
-use Rattle.mh_laws.proofs.costs.Quanta.{units-quantum}
-use Rattle.mh_laws.proofs.OfTableLaws.GreyList.{all-snoc}
-use Rattle.mh_laws.proofs.runs.EveryMoment.{config-mutator_step, machine_after-keeps}
+use Rattle.mh_laws.proofs.{costs.Quanta.units-quantum, runs.EveryMoment.{config-mutator_step, machine_after-keeps}}
 use Rattle.mh_laws.proofs.bounds.CyclesInTime.{quantum-in_bounds, run-stays, half-stays}
+use Rattle.mh_table_laws.proofs.marking.GreyList.{all-snoc}
 use Rattle.mh_run_laws.proofs.trace.MutatorShares.{Round, letters_of, rounds, IsRound, rounds-share}
 
 -- Quanta within their bound ----------------------------------------------------------------------
@@ -34,14 +22,11 @@ record IsLimited (config : Config) (machine : Machine) : Type 0 where
 module _ (config : Config) where
   command-limited : (machine : Machine) (who : ℕ) (command : Command) → IsLimited config machine → IsLimited config (command_step machine who command).state
   unfolding command_step
-  command-limited machine who command limited = record { config_is = config-mutator_step machine.heap who command ∙ limited.config_is; greatest = limited.greatest }
+  command-limited machine who command limited = grind (arith, config-mutator_step)
 
   quantum-limited : (machine : Machine) → IsLimited config machine → IsLimited config (quantum_run machine).state
   unfolding quantum_run
-  quantum-limited machine limited = record {
-    config_is = limited.config_is;
-    greatest = max-le limited.greatest (subst (λ c. (quantum c machine.heap.collector).units ≤ config.quantum) (sym limited.config_is) (units-quantum config machine.heap.collector));
-  }
+  quantum-limited machine limited = grind (arith, max-le, units-quantum)
 
   asking-limited : (machine : Machine) → IsLimited config machine → IsLimited config (with_collector machine (record (machine.heap.collector) { is_asked = true }))
   asking-limited machine limited = record { config_is = limited.config_is; greatest = limited.greatest }
@@ -96,32 +81,19 @@ module _ (config : Config) (some : 0 < config.every) where
       }
 
   due-rounds : (machine : Machine) → HasRounds config machine → HasRounds config (if is_quantum_due machine then (quantum_run machine).state else machine)
-  due-rounds machine has = go (is_quantum_due machine) refl
-    where
-      go : (due : Bool) → is_quantum_due machine ≡ due → HasRounds config (if due then (quantum_run machine).state else machine)
-      go true e =
-          let reached : machine.heap.config.every ≤ machine.units = leb-true machine.heap.config.every machine.units (and_parts (not (machine.heap.config.every == 0)) (nat_le machine.heap.config.every machine.units) e).1 in
-          quantum-rounds machine (omega (arith, reached, ap (λ (c : Config). c.every) has.config_is)) has
-      go false e = has
+  due-rounds machine has = search (arith, leb-true, and_parts, nat_le, quantum-rounds)
 
   control-rounds : (machine : Machine) (control : Control) → HasRounds config machine → HasRounds config (control_step machine control).state
   unfolding control_step
-  control-rounds machine control.Quantum has = go (machine.heap.config.every == 0) refl
-    where
-      go : (none : Bool) → (machine.heap.config.every == 0) ≡ none → HasRounds config (if none then quantum_run machine else says (reply.Spent 0 machine.heap.collector.phase) machine).state
-      go true e = let z = eqb-true machine.heap.config.every 0 e in absurd (omega (arith, z, ap (λ (c : Config). c.every) has.config_is))
-      go false e = has
-  control-rounds machine control.Start has = record { config_is = has.config_is; turns = has.turns; all = has.all; letters = has.letters }
-  control-rounds machine asked has = has
+  control-rounds machine asked has = grind (arith, eqb-true)
 
   event-rounds : (machine : Machine) (event : Event) → HasRounds config machine → HasRounds config (event_step machine event).state
   unfolding event_step
-  event-rounds machine (event.Session who command) has = due-rounds (command_step machine who command).state (command-rounds machine who command has)
-  event-rounds machine (event.Control control) has = control-rounds machine control has
+  event-rounds machine (Event.Session who command) has = due-rounds (command_step machine who command).state (command-rounds machine who command has)
+  event-rounds machine (Event.Control control) has = control-rounds machine control has
 
   half-rounds : (machine : Machine) (event : Event) → HasRounds config machine → HasRounds config (half_step machine event)
-  half-rounds machine (event.Session who command) has = command-rounds machine who command has
-  half-rounds machine (event.Control control) has = has
+  half-rounds machine event has = grind (arith, command-rounds)
 
   run-rounds : (events : List Event) (machine : Machine) → HasRounds config machine → HasRounds config (machine_after machine events)
   unfolding machine_after
@@ -132,7 +104,7 @@ module _ (config : Config) (some : 0 < config.every) where
   first-rounds = record { config_is = refl; turns = []; all = tt; letters = refl }
 
   rounds-has_share : (machine : Machine) → HasRounds config machine → HasShare config machine.trace
-  rounds-has_share machine has = λ window count e. rounds-share config.every config.quantum (omega arith) has.turns machine.units has.all window count (subst (λ letters. least_mutator window letters ≡ Some count) has.letters e)
+  rounds-has_share machine has = grind (arith, rounds-share)
 
 -- The mutator has its share
 pub mutator_share : MutatorHasItsShare

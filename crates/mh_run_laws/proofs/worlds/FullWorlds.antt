@@ -1,15 +1,12 @@
 -- What a full heap refuses, and no other test does, the ever-growing world makes.
-use Rattle.std.proofs.Common.{◌≡◌, ◌∙◌, ℕ, None, ap, sym, refl}
-use Rattle.mh_model.specs.declared.command.Command.TheVariants as command
-use Rattle.mh_model.specs.declared.reply.Reply.TheVariants as reply
-use Rattle.mh_model.specs.World.{Sight, World, effect, heap_step, most_fields, never_full, refusal, sight_of, unless_refused, world_step}
-use Rattle.mh_model.specs.Mutator.{HeapState, heap_sight}
-use Rattle.mh_model.specs.Paths.{Agrees}
-use Rattle.mh_model.specs.View.{heap_view}
+use Rattle.std.proofs.Common.{◌≡◌, ◌∙◌, ℕ, None, refl, arith}
+use Rattle.mh_model.specs.{declared.command.Command.Command, declared.reply.Reply.Reply}
+use Rattle.mh_model.specs.World.{Sight, World, heap_step, most_fields, never_full, refusal, sight_of, world_step}
+use Rattle.mh_model.specs.{Mutator.{HeapState, heap_sight}, Paths.Agrees, View.heap_view}
 
 -- the tests of a new object look at no slot
 refused-alike : (sight other : Sight) (who slot references numbers : ℕ) → sight.most ≡ other.most → sight.is_full ≡ other.is_full → sight.ended ≡ other.ended
-    → refusal sight who (command.New slot references numbers) ≡ refusal other who (command.New slot references numbers)
+    → refusal sight who (Command.New slot references numbers) ≡ refusal other who (Command.New slot references numbers)
 refused-alike sight other who slot references numbers most full ended = rw (most, full, ended) refl
 
 most-shown : (heap : HeapState) → (heap_sight heap).most ≡ most_fields (heap_view heap).config
@@ -20,22 +17,21 @@ ended-shown : (heap : HeapState) → (heap_sight heap).ended ≡ (heap_view heap
 unfolding heap_view
 ended-shown heap = refl
 
-made-unrefused : (world : World) (who slot references numbers : ℕ) → refusal (sight_of never_full world) who (command.New slot references numbers) ≡ None → (world_step world who (command.New slot references numbers)).reply ≡ reply.Done
+made-unrefused : (world : World) (who slot references numbers : ℕ) → refusal (sight_of never_full world) who (Command.New slot references numbers) ≡ None → (world_step world who (Command.New slot references numbers)).reply ≡ Reply.Done
 unfolding heap_step
-made-unrefused world who slot references numbers none = ap (λ refused. (unless_refused refused world (effect world who (command.New slot references numbers))).reply) none
+made-unrefused world who slot references numbers none = grind arith
 
 -- the world refuses a new object by the same tests as the heap, but for that of its fullness
 pub tested_by_the_world : (heap : HeapState) (world : World) → Agrees (heap_view heap) world → (who slot references numbers : ℕ)
-    → refusal (sight_of never_full world) who (command.New slot references numbers) ≡ refusal (record (heap_sight heap) { is_full = never_full }) who (command.New slot references numbers)
-tested_by_the_world heap world agrees who slot references numbers =
-    refused-alike (sight_of never_full world) (record (heap_sight heap) { is_full = never_full }) who slot references numbers (sym (most-shown heap ∙ ap most_fields agrees.config)) refl (sym (ended-shown heap ∙ agrees.ended))
+    → refusal (sight_of never_full world) who (Command.New slot references numbers) ≡ refusal (record (heap_sight heap) { is_full = never_full }) who (Command.New slot references numbers)
+tested_by_the_world heap world agrees who slot references numbers = grind (arith, refused-alike, most-shown, ended-shown)
 
 -- a new object that no test of the heap refuses but that of its fullness, the world doesn't refuse
-pub unrefused_by_the_world : (heap : HeapState) (world : World) → Agrees (heap_view heap) world → (who slot references numbers : ℕ) → refusal (record (heap_sight heap) { is_full = never_full }) who (command.New slot references numbers) ≡ None
-    → refusal (sight_of never_full world) who (command.New slot references numbers) ≡ None
+pub unrefused_by_the_world : (heap : HeapState) (world : World) → Agrees (heap_view heap) world → (who slot references numbers : ℕ) → refusal (record (heap_sight heap) { is_full = never_full }) who (Command.New slot references numbers) ≡ None
+    → refusal (sight_of never_full world) who (Command.New slot references numbers) ≡ None
 unrefused_by_the_world heap world agrees who slot references numbers none = tested_by_the_world heap world agrees who slot references numbers ∙ none
 
 -- so the world makes it
-pub made_by_the_world : (heap : HeapState) (world : World) → Agrees (heap_view heap) world → (who slot references numbers : ℕ) → refusal (record (heap_sight heap) { is_full = never_full }) who (command.New slot references numbers) ≡ None
-    → (world_step world who (command.New slot references numbers)).reply ≡ reply.Done
-made_by_the_world heap world agrees who slot references numbers none = made-unrefused world who slot references numbers (unrefused_by_the_world heap world agrees who slot references numbers none)
+pub made_by_the_world : (heap : HeapState) (world : World) → Agrees (heap_view heap) world → (who slot references numbers : ℕ) → refusal (record (heap_sight heap) { is_full = never_full }) who (Command.New slot references numbers) ≡ None
+    → (world_step world who (Command.New slot references numbers)).reply ≡ Reply.Done
+made_by_the_world heap world agrees who slot references numbers none = grind (arith, made-unrefused, unrefused_by_the_world)

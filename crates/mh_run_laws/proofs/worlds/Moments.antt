@@ -1,7 +1,6 @@
 -- The moments of a run are the machine's run and the world beside it.
 use Rattle.std.proofs.Common.{◌≡◌, List, [], ◌∷◌, refl}
-use Rattle.mh_model.specs.declared.command.Event.{Event}
-use Rattle.mh_model.specs.Machine.{machine_after, machine_replies}
+use Rattle.mh_model.specs.{declared.command.Event.Event, Machine.{machine_after, machine_replies}}
 use Rattle.mh_model.specs.Snapshot.{Moment, world_beside, half_moment, next_moment, moment_after}
 
 -- the machine of a moment is the machine after the same events

@@ -1,7 +1,6 @@
 -- How far the claim word goes past its bound, at most one for each seat, and which numbers are drawn: once all seats have ended each below the bound, once.
 use Rattle.std.proofs.Common.{◌≡◌, ℕ, zero, suc, ◌+◌, ◌<◌, ◌≤◌, ◌==◌, Bool, true, false, ◌||◌, ◌&&◌, nat_lt, nat_le, if◌then◌else◌, inl, inr, List, [], ◌∷◌, length, get_or, flat_map, count_by, arith, refl, ◌∙◌}
-use Rattle.std.proofs.lemmas.Bool.{cases_lt, false≢true}
-use Rattle.std.proofs.lemmas.Bool.Decides.{nat_tests}
+use Rattle.std.proofs.{lemmas.Bool.{cases_lt, false≢true}, lemmas.Bool.Decides.nat_tests}
 use Rattle.std.proofs.lemmas.List.Sums.{count_by-le-length, sum_by-append, sum_by-cons}
 use Rattle.mh_model.specs.History.{ClaimState, IsDrawn, OnlyLastPast, has_ended, times_drawn}
 use Rattle.mh_seat_laws.specs.Laws.{AllHaveEnded}

@@ -1,12 +1,10 @@
 -- The rule of the claim word gives the draw rule.
 use Rattle.std.proofs.Common.{arith, ◌≡◌, ℕ, zero, suc, cond, eqb, List, [], ◌∷◌, ◌++◌, get_or, sym, ap, ◌∙◌, refl}
-use Rattle.std.specs.Prelude.{nat_lt, flat_map}
-use Rattle.std.specs.List.{sum_by}
+use Rattle.std.proofs.{lemmas.Bool.Decides.nat_tests, lemmas.List.Sums.{sum_by-append, sum_by-cons}}
+use Rattle.std.proofs.lemmas.Grind.{flat_map-append}
+use Rattle.std.specs.{Prelude.{nat_lt, flat_map}, List.sum_by}
 use mathlib.Core.Option.{some}
 use lib.ListN.{get_elem?}
-use Rattle.std.proofs.lemmas.Bool.Decides.{nat_tests}
-use Rattle.std.proofs.lemmas.List.Sums.{sum_by-append, sum_by-cons}
-use Rattle.std.proofs.lemmas.Grind.{flat_map-append}
 use Rattle.atomic_table.specs.Table.{State}
 use Rattle.mh_model.specs.History.{OnlyLastPast, IsDrawn}
 use Rattle.mh_seat_laws.specs.Weights.{weigh, weigh_lists, weigh_below, total}

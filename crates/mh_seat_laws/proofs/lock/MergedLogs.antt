@@ -1,11 +1,8 @@
 -- Each event has one of the nine seats as its owner, so logs of what each of these owns of a history merge to it.
 use Rattle.std.proofs.Common.{◌≡◌, ℕ, ◌<◌, ◌≤◌, Bool, cond, nat_lt, if◌then◌else◌, inl, inr, List, [], ◌∷◌, length, get_or, set, refl, ap, ◌∙◌, sym, arith}
-use Rattle.std.proofs.lemmas.Bool.{cases_eq, eq-eqb, ne_eqb}
-use Rattle.std.proofs.lemmas.Bool.Decides.{nat_tests}
+use Rattle.std.proofs.{lemmas.Bool.{cases_eq, eq-eqb, ne_eqb}, lemmas.Bool.Decides.nat_tests}
 use Rattle.std.proofs.lemmas.List.{get_or-set_same, get_or-set_other, length-set}
-use Rattle.mh_model.specs.declared.command.Event.{Event}
-use Rattle.mh_model.specs.declared.command.Event.TheVariants as event
-use Rattle.mh_model.specs.declared.history.Entry.{Entry}
+use Rattle.mh_model.specs.{declared.command.Event.Event, declared.history.Entry.Entry}
 use Rattle.mh_model.specs.History.{owner_of, owned_by, AreLogs}
 use Rattle.mh_seat_laws.specs.Merges.{IsMerge}
 
@@ -14,8 +11,8 @@ below_nine who = grind (arith, nat_tests)
 
 -- An event has one of the nine seats as its owner
 pub owned_below : (event : Event) → owner_of event ≤ 8
-owned_below (event.Session who command) = below_nine who
-owned_below (event.Control control) = omega arith
+owned_below (Event.Session who command) = below_nine who
+owned_below (Event.Control control) = omega arith
 
 module _ {E : Type 0} (owner : E → ℕ) where
   -- Without its first entry a history has the same logs, but for the owner's, which lacks that entry

@@ -1,16 +1,14 @@
 -- The rule of the lock gives the lock's rule of the model.
 use Rattle.std.proofs.Common.{arith, ◌≡◌, inl, inr, ℕ, zero, suc, ◌+◌, ◌<◌, ◌≤◌, cond, eqb, List, [], ◌∷◌, length, get_or, set, replicate, Some, None, Option, sym, refl, ap, ◌∙◌, length-set, get_or-set_same, eq-eqb, ne_eqb, ⊎_elim, Bool, false}
+use Rattle.std.proofs.{lemmas.Bool.Decides.nat_tests, lemmas.List.{length-replicate, get_or-set_other}}
 use mathlib.Core.Logic.{dite}
 use native.Mathlib.Decide.{ℕ_discrete, dec_lt}
 use mathlib.Core.Option.{some, some-injective, some-ne-none}
 use lib.ListN.{get_elem?}
-use Rattle.std.proofs.lemmas.Bool.Decides.{nat_tests}
-use Rattle.std.proofs.lemmas.List.{length-replicate, get_or-set_other}
 use Rattle.atomic_table.specs.Table.{State}
-use Rattle.mh_seat_laws.specs.declared.seat_view.SeatView.{SeatView}
-use Rattle.mh_model.specs.History.{LockState, owned_by, AreLogs, IsKeptBy}
-use Rattle.mh_seat_laws.specs.Weights.{weigh_below, total}
+use Rattle.mh_seat_laws.specs.{declared.seat_view.SeatView.SeatView, Weights.{weigh_below, total}}
 use Rattle.mh_seat_laws.specs.Lock.{Logs, weigh_numbers, first, StandIn, Fits, AllOwned, HasHome, HasHolder, IsLocked, Shows}
+use Rattle.mh_model.specs.History.{LockState, owned_by, AreLogs, IsKeptBy}
 
 -- 1 for the number n
 abbrev pub is : ℕ → ℕ → ℕ

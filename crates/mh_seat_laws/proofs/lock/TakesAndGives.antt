@@ -1,9 +1,8 @@
 -- Taking the value and giving it back keep the lock's rule.
 use Rattle.std.proofs.Common.{◌≡◌, ◌≢◌, ◌<◌, ◌==◌, ◌++◌, ℕ, zero, suc, Bool, true, false, if◌then◌else◌, cond, inl, inr, List, [], ◌∷◌, length, get_or, set, Option, Some, None, option_map, refl, sym, ap, ◌∙◌, arith}
-use Rattle.std.specs.Option.{option_to_list}
 use Rattle.std.proofs.lemmas.Bool.{cases_eq, eq-eqb, ne_eqb}
-use Rattle.std.proofs.lemmas.List.{get_or-set_same, get_or-set_other, length-set, append-nil}
-use Rattle.std.proofs.lemmas.Option.{none-some}
+use Rattle.std.proofs.{lemmas.List.{get_or-set_same, get_or-set_other, length-set, append-nil}, lemmas.Option.none-some}
+use Rattle.std.specs.Option.{option_to_list}
 use Rattle.mh_model.specs.History.{LockState, IsOut, IsKeptBy, AreLogs, owned_by, with_take, with_give}
 
 -- what is there is within the list

@@ -1,12 +1,12 @@
 -- Marking by batches is marking block by block, however a front is cut: writing back and shading change no forward, nor the references of other blocks.
-use Rattle.std.proofs.Common.{◌≡◌, ◌≢◌, ℕ, suc, ◌==◌, Bool, true, false, if◌then◌else◌, inl, inr, List, [], ◌∷◌, ◌++◌, length, map, set, Option, Some, None, is_some, IsSome, option_map, option_and_then, unwrap_or, refl, sym, ap, ◌∙◌, append_assoc}
+use Rattle.std.proofs.Common.{◌≡◌, ◌≢◌, ℕ, suc, ◌==◌, Bool, true, false, if◌then◌else◌, List, [], ◌∷◌, ◌++◌, length, map, set, Option, Some, None, IsSome, option_map, refl, ap, ◌∙◌, append_assoc, arith}
+use Rattle.std.proofs.lemmas.Bool.{cases_eq}
 use Rattle.std.specs.List.{AllByRecursion, IsDistinct}
-use Rattle.std.proofs.lemmas.Bool.{cases_eq, false≢true, eq-eqb}
 use Rattle.mh_model.specs.Pages.{Table, block_at, with_block, Leads}
 use Rattle.mh_model.specs.Table.{Block, references_at, with_reference_at, forward_at, resolve, target_of, found_in, LeadsOn}
 use Rattle.mh_model.specs.Collector.{Marking, is_marked, with_grey, shade_block, shade, mark_references, mark_step}
-use Rattle.mh_table_laws.specs.Marking.{mark_steps}
 use Rattle.mh_model.specs.Batches.{written_back, batch_written, NoneTwice}
+use Rattle.mh_table_laws.specs.Marking.{mark_steps}
 use Rattle.mh_table_laws.proofs.placing.Places.{block_at-with_block_same, block_at-with_block_other, block-slot}
 use Rattle.mh_table_laws.proofs.tables.BlockRoom.{with_block-none}
 
@@ -19,22 +19,17 @@ all-front P (x ∷ front) rest (here, after) = (here, all-front P front rest aft
 pub none_twice-front : (front rest : List ℕ) → NoneTwice (front ++ rest) → NoneTwice front
 unfolding IsDistinct
 none_twice-front [] rest once = tt
-none_twice-front (x ∷ front) rest (here, after) = (all-front (λ y. (x == y) ≡ false) front rest here, none_twice-front front rest after)
+none_twice-front (x ∷ front) rest (here, after) = search (arith, all-front, none_twice-front front rest after)
 
 -- Forwards ---------------------------------------------------------------------------------------
 
 -- a place that leads to a block has one
 pub there_before : (table : Table Block) (place : ℕ) → IsSome (block_at table (resolve table place)) → IsSome (block_at table place)
-there_before table place leads_on = go (block_at table place) refl leads_on
-  where
-    go : (content : Option Block) → block_at table place ≡ content → IsSome (block_at table (unwrap_or (option_and_then (λ b. b.forward) content) place)) → IsSome (block_at table place)
-    go None at h = h
-    go (Some block) at h = ap is_some at
+there_before table place leads_on = grind arith
 
 -- and one that leads on leads to a block
 pub leads_of : (table : Table Block) (reference : Option ℕ) → LeadsOn table reference → Leads table reference
-leads_of table None leads = tt
-leads_of table (Some place) leads = leads.0
+leads_of table reference leads = grind arith
 
 -- each forward is as it was, and so are the references of blocks at other places
 pub record KeepsOthers (place : ℕ) (old new : Table Block) : Type 0 where
@@ -45,40 +40,18 @@ keeps_all : (place : ℕ) (table : Table Block) → KeepsOthers place table tabl
 keeps_all place table = record { forwards = λ other. refl; references = λ other apart. refl }
 
 pub then_keeps : (place : ℕ) (first second third : Table Block) → KeepsOthers place first second → KeepsOthers place second third → KeepsOthers place first third
-then_keeps place first second third one two = record { forwards = λ other. two.forwards other ∙ one.forwards other; references = λ other apart. two.references other apart ∙ one.references other apart }
+then_keeps place first second third one two = grind arith
 
 -- a block written in the place of one with the same forward, whose references are the same or lie at this place
 rewritten-keeps : (own : ℕ) (table : Table Block) (place : ℕ) (old new : Block) → block_at table place ≡ Some old → new.forward ≡ old.forward → (place ≢ own → new.references ≡ old.references) → KeepsOthers own table (with_block table place (Some new))
-rewritten-keeps own table place old new at forward references = record { forwards = forwards; references = same_references }
-  where
-    written : block_at (with_block table place (Some new)) place ≡ Some new
-    written = block_at-with_block_same table place (Some new) (block-slot table place old at)
-
-    forwards : (other : ℕ) → forward_at (with_block table place (Some new)) other ≡ forward_at table other
-    forwards other = elim (cases_eq other place) [
-      | inl same ↦ rw same (ap (option_and_then (λ (b : Block). b.forward)) written ∙ forward ∙ sym (ap (option_and_then (λ (b : Block). b.forward)) at))
-      | inr apart ↦ ap (option_and_then (λ (b : Block). b.forward)) (block_at-with_block_other table place other (Some new) apart)
-    ]
-
-    same_references : (other : ℕ) → other ≢ own → references_at (with_block table place (Some new)) other ≡ references_at table other
-    same_references other apart_own = elim (cases_eq other place) [
-      | inl same ↦
-          let here : new.references ≡ old.references = references (λ e. apart_own (same ∙ e)) in
-          rw same (ap (λ o. unwrap_or (option_map (λ (b : Block). b.references) o) []) written ∙ here ∙ sym (ap (λ o. unwrap_or (option_map (λ (b : Block). b.references) o) []) at))
-      | inr apart ↦ ap (λ o. unwrap_or (option_map (λ (b : Block). b.references) o) []) (block_at-with_block_other table place other (Some new) apart)
-    ]
+rewritten-keeps own table place old new at forward references = search (arith, block_at-with_block_same, block-slot, cases_eq, block_at-with_block_other)
 
 shade_block-keeps : (own : ℕ) (marking : Marking) (place : ℕ) (block : Option Block) → block_at marking.table place ≡ block → KeepsOthers own marking.table (shade_block marking place block).table
 shade_block-keeps own marking place None at = keeps_all own marking.table
-shade_block-keeps own marking place (Some block) at = go (is_marked marking.cycle block)
-  where
-    go : (marked : Bool) → KeepsOthers own marking.table (if marked then marking else with_grey marking place block).table
-    go true = keeps_all own marking.table
-    go false = rewritten-keeps own marking.table place block (record block { stamp = marking.cycle }) at refl (λ apart. refl)
+shade_block-keeps own marking place (Some block) at = grind (arith, rewritten-keeps own marking.table place block (record block { stamp = marking.cycle }))
 
 pub shade-keeps : (own : ℕ) (marking : Marking) (reference : Option ℕ) → KeepsOthers own marking.table (shade marking reference).table
-shade-keeps own marking None = keeps_all own marking.table
-shade-keeps own marking (Some place) = shade_block-keeps own marking (resolve marking.table place) (block_at marking.table (resolve marking.table place)) refl
+shade-keeps own marking reference = grind (arith, keeps_all, shade_block-keeps)
 
 with_reference_at-keeps : (table : Table Block) (place index : ℕ) (reference : Option ℕ) → KeepsOthers place table (with_reference_at table place index reference)
 with_reference_at-keeps table place index reference = go (block_at table place) refl
@@ -96,8 +69,7 @@ written_back-keeps (target ∷ found) marking place index =
     then_keeps place marking.table _ _ (written-keeps marking place index target) (written_back-keeps found (shade (record marking { table = with_reference_at marking.table place index target }) target) place (suc index))
 
 target-same : (place : ℕ) (old new : Table Block) → KeepsOthers place old new → (reference : Option ℕ) → target_of new reference ≡ target_of old reference
-target-same place old new keeps None = refl
-target-same place old new keeps (Some other) = ap (λ forward. Some (unwrap_or forward other)) (keeps.forwards other)
+target-same place old new keeps reference = grind arith
 
 -- a block marked through is what was found of it before, written back and shaded
 mark_references-found : (references : List (Option ℕ)) (table : Table Block) (marking : Marking) (place index : ℕ) → KeepsOthers place table marking.table → mark_references marking place index references ≡ written_back marking place index (map (target_of table) references)
@@ -112,14 +84,7 @@ mark_references-found (reference ∷ references) table marking place index keeps
 -- what is found of other blocks stays
 found-same : (batch : List ℕ) (place : ℕ) (old new : Table Block) → KeepsOthers place old new → AllByRecursion (λ other. (place == other) ≡ false) batch → found_in new batch ≡ found_in old batch
 found-same [] place old new keeps apart = refl
-found-same (other ∷ batch) place old new keeps (here, after) =
-    let other_apart : other ≢ place = λ e. false≢true (sym here ∙ eq-eqb place other (sym e)) in
-    let one : map (target_of new) (references_at new other) ≡ map (target_of old) (references_at old other) = ap (map (target_of new)) (keeps.references other other_apart) ∙ each (references_at old other) in
-    ap (λ found. found ∷ found_in new batch) one ∙ ap (λ all. map (target_of old) (references_at old other) ∷ all) (found-same batch place old new keeps after)
-  where
-    each : (references : List (Option ℕ)) → map (target_of new) references ≡ map (target_of old) references
-    each [] = refl
-    each (reference ∷ references) = ap (λ t. t ∷ map (target_of new) references) (target-same place old new keeps reference) ∙ ap (λ rest. target_of old reference ∷ rest) (each references)
+found-same (other ∷ batch) place old new keeps (here, after) = grind (arith, found-same batch place old new keeps after)
 
 -- Fronts of the grey list ------------------------------------------------------------------------
 
@@ -136,8 +101,7 @@ shade_block-front front marking place (Some block) = go (is_marked marking.cycle
     go false = ap (λ grey. record (with_grey marking place block) { grey = grey }) (append_assoc front marking.grey (place ∷ []))
 
 shade-front : (front : List ℕ) (marking : Marking) (reference : Option ℕ) → shade (with_front front marking) reference ≡ with_front front (shade marking reference)
-shade-front front marking None = refl
-shade-front front marking (Some place) = shade_block-front front marking (resolve marking.table place) (block_at marking.table (resolve marking.table place))
+shade-front front marking reference = grind (arith, shade_block-front)
 
 pub written_back-front : (found : List (Option ℕ)) (front : List ℕ) (marking : Marking) (place index : ℕ) → written_back (with_front front marking) place index found ≡ with_front front (written_back marking place index found)
 written_back-front [] front marking place index = refl
@@ -163,5 +127,4 @@ batch_written-first place batch marking apart =
 pub front-marked : (batch : List ℕ) (marking : Marking) → NoneTwice batch → mark_steps (length batch) (with_front batch marking) ≡ batch_written marking batch (found_in marking.table batch)
 unfolding IsDistinct
 front-marked [] marking once = refl
-front-marked (place ∷ batch) marking (apart, once) =
-    ap (mark_steps (length batch)) (mark_step-front place batch marking) ∙ front-marked batch (first_marked marking place) once ∙ batch_written-first place batch marking apart
+front-marked (place ∷ batch) marking (apart, once) = grind (arith, mark_step-front, batch_written-first, front-marked batch (first_marked marking place) once)

@@ -1,44 +1,29 @@
 -- The grey list: no place stands twice in it, each holds a marked block, and what marking still costs only falls.
-use Rattle.std.proofs.Common.{◌≡◌, ◌≢◌, ℕ, zero, suc, ◌+◌, ◌<◌, ◌≤◌, ◌==◌, Bool, true, false, if◌then◌else◌, inl, inr, List, [], ◌∷◌, ◌++◌, length, set, replicate, Option, Some, None, option_map, option_and_then, unwrap_or, refl, sym, ap, ◌∙◌, subst, arith}
+use Rattle.std.proofs.Common.{◌≡◌, ◌≢◌, ℕ, zero, suc, ◌+◌, ◌≤◌, ◌==◌, false, if◌then◌else◌, List, [], ◌∷◌, ◌++◌, length, set, replicate, Option, Some, None, option_map, unwrap_or, refl, sym, ap, ◌∙◌, subst, arith}
+use Rattle.std.proofs.{lemmas.Bool.{cases_eq, eq-eqb, ne_eqb}, lemmas.List.{length-set, length-append}}
+use Rattle.std.proofs.{lemmas.List.Sums.{sum_by-append, sum_by-cons, sum_by-set}, lemmas.Option.{none-some, same_Some}}
 use Rattle.std.specs.List.{AllByRecursion, IsDistinct, sum_by}
-use Rattle.std.proofs.lemmas.Bool.{cases_eq, eq-eqb, ne_eqb, false≢true}
-use Rattle.std.proofs.lemmas.List.{length-set, length-append}
-use Rattle.std.proofs.lemmas.List.Sums.{sum_by-append, sum_by-cons, sum_by-set}
-use Rattle.mh_model.specs.Classes.{slots_in}
-use Rattle.std.proofs.lemmas.Option.{none-some, same_Some}
 use Rattle.mh_model.specs.Pages.{Page, Table, page_number, slot_number, page_at, block_in, block_at, page_with, with_block, page_for, with_taken, IsFreeFor}
-use Rattle.mh_model.specs.Table.{Block, references_at, with_block_change, with_reference_at, resolve, target_of}
-use Rattle.mh_model.specs.Collector.{Marking, is_marked, with_grey, shade_block, shade, mark_reference, mark_references, mark_first}
+use Rattle.mh_model.specs.Table.{Block, references_at, with_block_change, with_reference_at, target_of}
+use Rattle.mh_model.specs.Collector.{Marking, shade_block, shade, mark_reference, mark_references, mark_first}
 use Rattle.mh_model.specs.Batches.{written_back}
-use Rattle.mh_table_laws.specs.Marking.{IsSettled}
 use Rattle.mh_model.specs.CycleBounds.{count_at, class_at, slot_weight, page_weight, table_weight, grey_weight, weight, IsGreySound, IsMarkedIn}
+use Rattle.mh_table_laws.specs.Marking.{IsSettled}
 use Rattle.mh_table_laws.proofs.placing.Places.{IsSlot, block_in-page_for, block_at-with_block_same, block_at-with_block_other, block-slot}
-use Rattle.mh_table_laws.proofs.tables.BlockRoom.{rewritten-roomy, with_block-none}
-use Rattle.mh_table_laws.proofs.Lists.{below_length}
+use Rattle.mh_table_laws.proofs.{tables.BlockRoom.{rewritten-roomy, with_block-none}, Lists.below_length}
 
 -- Weights ----------------------------------------------------------------------------------------
 
 module _ (price : ℕ → ℕ) (cycle : ℕ) where
   weight-with_block : (table : Table Block) (place : ℕ) (content : Option Block) → IsSlot table place → table_weight price cycle (with_block table place content) + slot_weight price cycle (block_at table place) ≡ table_weight price cycle table + slot_weight price cycle content
-  weight-with_block table place content slot =
-      let page = slot.page in
-      let number = page_number place in
-      let inside : number < length table = below_length table number page slot.in_use in
-      let new : Option (Page Block) = option_map (page_with (slot_number place) content) (page_at table number) in
-      let whole : table_weight price cycle (with_block table place content) + page_weight price cycle (page_at table number) ≡ table_weight price cycle table + page_weight price cycle new = sum_by-set (page_weight price cycle) table number new None inside in
-      let part : sum_by (slot_weight price cycle) (set page.slots (slot_number place) content) + slot_weight price cycle (block_in (slot_number place) page) ≡ sum_by (slot_weight price cycle) page.slots + slot_weight price cycle content = sum_by-set (slot_weight price cycle) page.slots (slot_number place) content None slot.within in
-      let old_page : page_weight price cycle (page_at table number) ≡ sum_by (slot_weight price cycle) page.slots = ap (page_weight price cycle) slot.in_use in
-      let new_page : page_weight price cycle new ≡ sum_by (slot_weight price cycle) (set page.slots (slot_number place) content) = ap (λ p. page_weight price cycle (option_map (page_with (slot_number place) content) p)) slot.in_use in
-      let there : slot_weight price cycle (block_at table place) ≡ slot_weight price cycle (block_in (slot_number place) page) = ap (λ p. slot_weight price cycle (option_and_then (block_in (slot_number place)) p)) slot.in_use in
-      omega (arith, whole, part, old_page, new_page, there)
+  weight-with_block table place content slot = grind (arith, below_length, sum_by-set)
 
   weight-empty : (count : ℕ) → sum_by (slot_weight price cycle) (replicate count None) ≡ 0
   weight-empty zero = refl
   weight-empty (suc count) = omega (arith, weight-empty count)
 
   weight-page_for : (size : ℕ) (content : Option (Page Block)) → sum_by (slot_weight price cycle) (page_for size content).slots ≡ page_weight price cycle content
-  weight-page_for size None = weight-empty (slots_in size)
-  weight-page_for size (Some page) = refl
+  weight-page_for size content = grind (arith, weight-empty)
 
   pub weight-with_taken : (table : Table Block) (size place : ℕ) (block : Block) → IsFreeFor table size place → table_weight price cycle (with_taken table size place block) ≡ table_weight price cycle table + slot_weight price cycle (Some block)
   weight-with_taken table size place block free =
@@ -72,16 +57,10 @@ pub record Carries (old new : Marking) : Type 0 where
   pub classes : (number size : ℕ) → class_at old.table number ≡ Some size → class_at new.table number ≡ Some size
 
 pub carries_nothing : (marking : Marking) → IsGreySound marking → Carries marking marking
-carries_nothing marking sound = record { sound = sound; longer = omega arith; settled = λ place s. s; lighter = λ price. omega arith; classes = λ number size e. e }
+carries_nothing marking sound = grind arith
 
 pub then_carries : (first second third : Marking) → Carries first second → Carries second third → Carries first third
-then_carries first second third one two = record {
-  sound = two.sound;
-  longer = omega (arith, one.longer, two.longer);
-  settled = λ place s. two.settled place (one.settled place s);
-  lighter = λ price. omega (arith, one.lighter price, two.lighter price);
-  classes = λ number size e. two.classes number size (one.classes number size e);
-}
+then_carries first second third one two = grind arith
 
 pub all-map : {X : Type 0} (P Q : X → Type 0) → ((x : X) → P x → Q x) → (xs : List X) → AllByRecursion P xs → AllByRecursion Q xs
 all-map P Q f [] all = tt
@@ -94,24 +73,20 @@ all-snoc P (y ∷ xs) x (here, after) last = (here, all-snoc P xs x after last)
 distinct-snoc : (xs : List ℕ) (x : ℕ) → IsDistinct (λ a b. a == b) xs → AllByRecursion (λ y. y ≢ x) xs → IsDistinct (λ a b. a == b) (xs ++ x ∷ [])
 unfolding IsDistinct
 distinct-snoc [] x distinct apart = (tt, tt)
-distinct-snoc (y ∷ xs) x (here, after) (other, others) = (all-snoc (λ z. (y == z) ≡ false) xs x here (ne_eqb y x other), distinct-snoc xs x after others)
+distinct-snoc (y ∷ xs) x (here, after) (other, others) = grind (arith, all-snoc, ne_eqb, distinct-snoc xs x after others)
 
 -- a page written keeps its class
 class-set : (table : Table Block) (index : ℕ) (new : Option (Page Block)) → ((page : Page Block) → page_at table index ≡ Some page → option_map (λ p. p.class_size) new ≡ Some page.class_size) → (number size : ℕ) → class_at table number ≡ Some size → class_at (set table index new) number ≡ Some size
-class-set [] index new keeps number size e = e
-class-set (None ∷ table) zero new keeps zero size e = absurd (none-some size e)
-class-set (Some page ∷ table) zero new keeps zero size e = keeps page refl ∙ e
-class-set (page ∷ table) zero new keeps (suc number) size e = e
-class-set (page ∷ table) (suc index) new keeps zero size e = e
 class-set (page ∷ table) (suc index) new keeps (suc number) size e = class-set table index new keeps number size e
+class-set table index new keeps number size e = grind (arith, none-some)
 
 -- a block written keeps the classes of pages
 pub class-with_block : (table : Table Block) (place : ℕ) (content : Option Block) (number size : ℕ) → class_at table number ≡ Some size → class_at (with_block table place content) number ≡ Some size
-class-with_block table place content = class-set table (page_number place) _ (λ page e. ap (λ p. option_map (λ q. q.class_size) (option_map (page_with (slot_number place) content) p)) e)
+class-with_block table place content = grind (arith, class-set)
 
 -- and so does a block placed
 pub class-with_taken : (table : Table Block) (size place : ℕ) (block : Block) (number class : ℕ) → class_at table number ≡ Some class → class_at (with_taken table size place block) number ≡ Some class
-class-with_taken table size place block = class-set table (page_number place) _ (λ page e. ap (λ p. Some (page_for size p).class_size) e)
+class-with_taken table size place block = grind (arith, class-set)
 
 -- A block written in the place of another with as many references
 module _ (table : Table Block) (place : ℕ) (old new : Block) (at : block_at table place ≡ Some old) (counts : length new.references ≡ length old.references) where
@@ -122,38 +97,17 @@ module _ (table : Table Block) (place : ℕ) (old new : Block) (at : block_at ta
   written = block_at-with_block_same table place (Some new) (block-slot table place old at)
 
   count-rewritten : (other : ℕ) → count_at after other ≡ count_at table other
-  count-rewritten other = elim (cases_eq other place) [
-    | inl same ↦
-        let now : count_at after place ≡ length new.references = ap (λ b. length (unwrap_or (option_map (λ x. x.references) b) [])) written in
-        let before : count_at table place ≡ length old.references = ap (λ b. length (unwrap_or (option_map (λ x. x.references) b) [])) at in
-        rw same (now ∙ counts ∙ sym before)
-    | inr apart ↦ ap (λ b. length (unwrap_or (option_map (λ x. x.references) b) [])) (block_at-with_block_other table place other (Some new) apart)
-  ]
+  count-rewritten other = grind (arith, cases_eq, written, block_at-with_block_other)
 
   marked-rewritten : (cycle : ℕ) → (old.stamp ≡ cycle → new.stamp ≡ cycle) → (other : ℕ) → IsMarkedIn table cycle other → IsMarkedIn after cycle other
-  marked-rewritten cycle keeps other is = elim (cases_eq other place) [
-    | inl same ↦
-        let before : old.stamp ≡ cycle = same_Some old.stamp cycle (sym (ap (option_map (λ b. b.stamp)) at) ∙ subst (IsMarkedIn table cycle) same is) in
-        rw same (ap (option_map (λ b. b.stamp)) written ∙ ap Some (keeps before))
-    | inr apart ↦ ap (option_map (λ b. b.stamp)) (block_at-with_block_other table place other (Some new) apart) ∙ is
-  ]
+  marked-rewritten cycle keeps other is = grind (arith, cases_eq, same_Some, written, block_at-with_block_other)
 
   class-rewritten : (number size : ℕ) → class_at table number ≡ Some size → class_at after number ≡ Some size
   class-rewritten number size e = class-with_block table place (Some new) number size e
 
   -- Soundness stays if the stamp does
   pub rewritten-carries : (grey : List ℕ) (cycle : ℕ) → new.stamp ≡ old.stamp → IsGreySound (record { table = table; grey = grey; cycle = cycle }) → Carries (record { table = table; grey = grey; cycle = cycle }) (record { table = after; grey = grey; cycle = cycle })
-  rewritten-carries grey cycle stamps sound = record {
-    sound = record {
-      roomy = rewritten-roomy table place old new sound.roomy at counts;
-      once = sound.once;
-      marked = all-map (IsMarkedIn table cycle) (IsMarkedIn after cycle) (marked-rewritten cycle (λ e. stamps ∙ e)) grey sound.marked;
-    };
-    longer = omega arith;
-    settled = λ other s. record { marked = marked-rewritten cycle (λ e. stamps ∙ e) other s.marked; apart = s.apart };
-    lighter = lighter;
-    classes = class-rewritten;
-  }
+  rewritten-carries grey cycle stamps sound = search (arith, rewritten-roomy, all-map, marked-rewritten, lighter, class-rewritten)
     where
       lighter : (price : ℕ → ℕ) → weight price (record { table = after; grey = grey; cycle = cycle }) ≤ weight price (record { table = table; grey = grey; cycle = cycle })
       lighter price =
@@ -165,11 +119,7 @@ module _ (table : Table Block) (place : ℕ) (old new : Block) (at : block_at ta
   pub shaded-carries : (grey : List ℕ) (cycle : ℕ) → new.stamp ≡ cycle → (old.stamp == cycle) ≡ false → IsGreySound (record { table = table; grey = grey; cycle = cycle })
       → Carries (record { table = table; grey = grey; cycle = cycle }) (record { table = after; grey = grey ++ place ∷ []; cycle = cycle })
   shaded-carries grey cycle stamps unmarked sound = record {
-    sound = record {
-      roomy = rewritten-roomy table place old new sound.roomy at counts;
-      once = distinct-snoc grey place sound.once (all-map (IsMarkedIn table cycle) (λ other. other ≢ place) apart grey sound.marked);
-      marked = all-snoc (IsMarkedIn after cycle) grey place (all-map (IsMarkedIn table cycle) (IsMarkedIn after cycle) (marked-rewritten cycle (λ e. stamps)) grey sound.marked) (ap (option_map (λ b. b.stamp)) written ∙ ap Some stamps);
-    };
+    sound = grind (arith, rewritten-roomy, distinct-snoc, all-map, apart, all-snoc, marked-rewritten, written);
     longer = omega (arith, length-append grey (place ∷ []));
     settled = λ other s. record { marked = marked-rewritten cycle (λ e. stamps) other s.marked; apart = all-snoc (λ g. g ≢ other) grey place s.apart (λ e. apart other s.marked (sym e)) };
     lighter = lighter;
@@ -177,9 +127,7 @@ module _ (table : Table Block) (place : ℕ) (old new : Block) (at : block_at ta
   }
     where
       apart : (other : ℕ) → IsMarkedIn table cycle other → other ≢ place
-      apart other is same =
-          let marked : old.stamp ≡ cycle = same_Some old.stamp cycle (sym (ap (option_map (λ b. b.stamp)) at) ∙ subst (IsMarkedIn table cycle) same is) in
-          false≢true (sym unmarked ∙ eq-eqb old.stamp cycle marked)
+      apart other is same = grind arith
 
       lighter : (price : ℕ → ℕ) → weight price (record { table = after; grey = grey ++ place ∷ []; cycle = cycle }) ≤ weight price (record { table = table; grey = grey; cycle = cycle })
       lighter price =
@@ -194,16 +142,12 @@ module _ (table : Table Block) (place : ℕ) (old new : Block) (at : block_at ta
 
 shade_block-carries : (marking : Marking) (place : ℕ) (block : Option Block) → block_at marking.table place ≡ block → IsGreySound marking → Carries marking (shade_block marking place block)
 shade_block-carries marking place None at sound = carries_nothing marking sound
-shade_block-carries marking place (Some block) at sound = go (is_marked marking.cycle block) refl
-  where
-    go : (marked : Bool) → is_marked marking.cycle block ≡ marked → Carries marking (if marked then marking else with_grey marking place block)
-    go true is = carries_nothing marking sound
-    go false is = shaded-carries marking.table place block (record block { stamp = marking.cycle }) at refl marking.grey marking.cycle refl is sound
+shade_block-carries marking place (Some block) at sound = search (arith, shaded-carries marking.table place block (record block { stamp = marking.cycle }))
 
 -- Shading keeps what marking keeps
 pub shade-carries : (marking : Marking) (reference : Option ℕ) → IsGreySound marking → Carries marking (shade marking reference)
 shade-carries marking None sound = carries_nothing marking sound
-shade-carries marking (Some place) sound = shade_block-carries marking (resolve marking.table place) (block_at marking.table (resolve marking.table place)) refl sound
+shade-carries marking (Some place) sound = search (arith, shade_block-carries)
 
 -- a change of a block that keeps its stamp and how many references it has
 pub change-carries : (marking : Marking) (place : ℕ) (change : Block → Block) → ((block : Block) → block_at marking.table place ≡ Some block → ((change block).stamp ≡ block.stamp) × (length (change block).references ≡ length block.references)) → IsGreySound marking
@@ -211,11 +155,11 @@ pub change-carries : (marking : Marking) (place : ℕ) (change : Block → Block
 change-carries marking place change keeps sound = go (block_at marking.table place) refl
   where
     go : (block : Option Block) → block_at marking.table place ≡ block → Carries marking (record marking { table = with_block marking.table place (option_map change block) })
-    go None at = rw (with_block-none marking.table place at) (carries_nothing marking sound)
-    go (Some block) at = let (stamps, counts) = keeps block at in rewritten-carries marking.table place block (change block) at counts marking.grey marking.cycle stamps sound
+    go None at = grind (arith, with_block-none, carries_nothing)
+    go (Some block) at = grind (arith, rewritten-carries marking.table place block (change block))
 
 pub reference-carries : (marking : Marking) (place index : ℕ) (reference : Option ℕ) → IsGreySound marking → Carries marking (record marking { table = with_reference_at marking.table place index reference })
-reference-carries marking place index reference sound = change-carries marking place _ (λ block at. (refl, length-set block.references index reference)) sound
+reference-carries marking place index reference sound = search (arith, change-carries, length-set)
 
 mark_reference-carries : (marking : Marking) (place index : ℕ) (reference : Option ℕ) → IsGreySound marking → Carries marking (mark_reference marking place index reference)
 mark_reference-carries marking place index reference sound =
@@ -231,11 +175,7 @@ mark_references-carries marking place index (reference ∷ references) sound =
 
 without_first : (marking : Marking) (place : ℕ) (grey : List ℕ) → marking.grey ≡ place ∷ grey → IsGreySound marking → IsGreySound (record marking { grey = grey })
 unfolding IsDistinct
-without_first marking place grey is sound = record {
-  roomy = sound.roomy;
-  once = (subst (IsDistinct (λ a b. a == b)) is sound.once).1;
-  marked = (subst (AllByRecursion (IsMarkedIn marking.table marking.cycle)) is sound.marked).1;
-}
+without_first marking place grey is sound = grind arith
 
 -- A mark step pays for the block that it marks through, and keeps what marking keeps
 pub record MarksThrough (old new : Marking) (count : ℕ) : Type 0 where
@@ -251,23 +191,16 @@ mark_first-pays marking place grey is sound =
       sound = through.sound;
       settled = λ other s. through.settled other (record { marked = s.marked; apart = (subst (AllByRecursion (λ g. g ≢ other)) is s.apart).1 });
       paid = λ price.
-          let taken : grey_weight price marking.table marking.grey ≡ price (count_at marking.table place) + grey_weight price marking.table grey = ap (grey_weight price marking.table) is ∙ sum_by-cons (λ p. price (count_at marking.table p)) place grey in
-          omega (arith, through.lighter price, taken);
+          omega (arith, through.lighter price, ap (grey_weight price marking.table) is ∙ sum_by-cons (λ p. price (count_at marking.table p)) place grey);
     }
 
 -- Cycle numbers ----------------------------------------------------------------------------------
 
 cycle-shade_block : (marking : Marking) (place : ℕ) (block : Option Block) → (shade_block marking place block).cycle ≡ marking.cycle
-cycle-shade_block marking place None = refl
-cycle-shade_block marking place (Some block) = go (is_marked marking.cycle block)
-  where
-    go : (marked : Bool) → (if marked then marking else with_grey marking place block).cycle ≡ marking.cycle
-    go true = refl
-    go false = refl
+cycle-shade_block marking place block = grind arith
 
 pub cycle-shade : (marking : Marking) (reference : Option ℕ) → (shade marking reference).cycle ≡ marking.cycle
-cycle-shade marking None = refl
-cycle-shade marking (Some place) = cycle-shade_block marking (resolve marking.table place) (block_at marking.table (resolve marking.table place))
+cycle-shade marking reference = grind arith
 
 pub cycle-mark_references : (marking : Marking) (place index : ℕ) (references : List (Option ℕ)) → (mark_references marking place index references).cycle ≡ marking.cycle
 cycle-mark_references marking place index [] = refl
@@ -278,5 +211,4 @@ cycle-written_back [] marking place index = refl
 cycle-written_back (target ∷ found) marking place index = cycle-written_back found _ place (suc index) ∙ cycle-shade _ target
 
 pub cycle-mark_first : (marking : Marking) (grey : List ℕ) → (mark_first marking grey).cycle ≡ marking.cycle
-cycle-mark_first marking [] = refl
-cycle-mark_first marking (place ∷ grey) = cycle-mark_references (record marking { grey = grey }) place 0 (references_at marking.table place)
+cycle-mark_first marking grey = grind (arith, cycle-mark_references)

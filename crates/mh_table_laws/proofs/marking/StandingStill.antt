@@ -1,22 +1,16 @@
 -- The steps of marking leave the pages and the blocks of a table if they are.
-use Rattle.std.proofs.Common.{◌≡◌, ℕ, zero, suc, List, [], ◌∷◌, set, Option, None, option_map, refl, ap}
-use Rattle.mh_model.specs.Pages.{Table, page_at, page_with}
-use Rattle.mh_model.specs.Table.{Block}
-use Rattle.mh_model.specs.Collector.{Collector, after_mark}
+use Rattle.std.proofs.Common.{◌≡◌, ℕ, suc, List, ◌∷◌, set, Option, None, option_map, arith}
+use Rattle.mh_model.specs.{Pages.{Table, page_at, page_with}, Table.Block, Collector.{Collector, after_mark}}
 
 -- One block written ------------------------------------------------------------------------------
 
 -- the pages after one of them is given other content of a slot
 module _ (slot : ℕ) (content : Option Block) where
   free-written : (table : Table Block) (number other : ℕ) → page_at table other ≡ None → page_at (set table number (option_map (page_with slot content) (page_at table number))) other ≡ None
-  free-written [] number other e = e
-  free-written (page ∷ table) zero zero e = ap (option_map (page_with slot content)) e
-  free-written (page ∷ table) zero (suc other) e = e
-  free-written (page ∷ table) (suc number) zero e = e
   free-written (page ∷ table) (suc number) (suc other) e = free-written table number other e
+  free-written table number other e = grind arith
 
 -- Steps ------------------------------------------------------------------------------------------
 
 pub after_mark-table : (collector : Collector) (grey : List ℕ) → (after_mark collector grey).table ≡ collector.table
-after_mark-table collector [] = refl
-after_mark-table collector (place ∷ grey) = refl
+after_mark-table collector grey = grind arith

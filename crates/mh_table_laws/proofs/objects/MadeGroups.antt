@@ -1,14 +1,12 @@
 -- The parts of a new object: each is a new block at a place that was free, and every other block stays.
-use Rattle.std.proofs.Common.{◌≡◌, ℕ, zero, suc, ◌+◌, ◌⊎◌, ◌≢◌, ◌<◌, ◌≤◌, inl, inr, List, [], ◌∷◌, length, Option, Some, None, option_map, option_and_then, refl, sym, ap, ◌∙◌, subst, arith, add-zero, slice_get, take, drop}
-use Rattle.std.proofs.lemmas.Bool.{cases_eq}
-use Rattle.std.proofs.lemmas.Option.{none-some, same_Some}
+use Rattle.std.proofs.Common.{◌≡◌, ℕ, zero, suc, ◌+◌, ◌⊎◌, ◌≢◌, ◌<◌, ◌≤◌, inl, inr, List, [], ◌∷◌, length, Option, Some, None, option_map, option_and_then, refl, sym, ap, ◌∙◌, subst, arith, add-zero, slice_get}
+use Rattle.std.proofs.{lemmas.Bool.cases_eq, lemmas.Option.{none-some, same_Some}}
 use Rattle.std.proofs.lemmas.List.{length-set, length-replicate, length-map, length-take, length-drop}
 use Rattle.mh_model.specs.Classes.{Part, class_of, slots_in, part_words}
 use Rattle.mh_model.specs.Pages.{Page, Table, page_number, slot_number, page_at, block_at, least_place, page_with, page_for, with_taken, IsFreeFor}
 use Rattle.mh_model.specs.Table.{Block, Made, MadeParts, new_block, made_in_class, made_part, made_parts, with_block_change, words_of, linked_block, linked_parts, group_of, made_group}
 use Rattle.mh_table_laws.specs.NewObjects.{IsMade, AreMade, IsGroup}
-use Rattle.mh_table_laws.proofs.Lists.{get_or-set_either}
-use Rattle.mh_table_laws.proofs.tables.PageSlots.{slots_in-class_size, class_of-class_size}
+use Rattle.mh_table_laws.proofs.{Lists.get_or-set_either, tables.PageSlots.{slots_in-class_size, class_of-class_size}}
 use Rattle.mh_table_laws.proofs.placing.Places.{IsShaped, block_at-with_block_same, block_at-with_block_other, least_place-free, block_at-with_taken_same, block_at-with_taken_other, block-slot}
 
 -- Parts ------------------------------------------------------------------------------------------
@@ -31,8 +29,7 @@ with_taken-shaped table size place block few shaped number page e = elim (get_or
     new = page_with (slot_number place) (Some block) old
 
     of_page : (content : Option (Page Block)) → ((p : Page Block) → content ≡ Some p → length p.slots ≤ 64) → length (page_for size content).slots ≤ 64
-    of_page None narrow = omega (arith, length-replicate {A = Option Block} (slots_in size) None)
-    of_page (Some p) narrow = narrow p refl
+    of_page content narrow = grind (arith, length-replicate)
 
 -- a part that is made, in a table that stays narrow
 one_made : (table : Table Block) (birth stamp index : ℕ) (part : Part) → IsShaped table → (made : Made) → made_part table birth stamp index part ≡ Some made → IsMade table birth stamp index part made × IsShaped made.table
@@ -45,18 +42,7 @@ one_made table birth stamp index part shaped made e = by_class (class_of (part_w
         let (some, few) = slots_in-class_of (part_words part) size is in
         let free : IsFreeFor table size p = least_place-free table size shaped some p found in
         let block : Block = new_block birth stamp index part in
-        let new : Made = record { place = p; table = with_taken table size p block } in
-        subst (λ m. IsMade table birth stamp index part m × IsShaped m.table) (same_Some new made h) (
-          record {
-            size = size;
-            class = is;
-            least = found;
-            free = free;
-            there = block_at-with_taken_same table size p block free;
-            others = λ place apart. block_at-with_taken_other table size p place block apart;
-          },
-          with_taken-shaped table size p block few shaped,
-        )
+        grind (arith, IsShaped, same_Some, block_at-with_taken_same, block_at-with_taken_other, with_taken-shaped)
 
     by_class : (size : Option ℕ) → class_of (part_words part) ≡ size → option_and_then (made_in_class table (new_block birth stamp index part)) size ≡ Some made → IsMade table birth stamp index part made × IsShaped made.table
     by_class None is h = absurd (none-some made h)
@@ -67,15 +53,7 @@ pub made_part-is : (table : Table Block) (birth stamp index : ℕ) (part : Part)
 made_part-is table birth stamp index part shaped made e = (one_made table birth stamp index part shaped made e).0
 
 none_made : (table : Table Block) (birth stamp index : ℕ) → AreMade table birth stamp index [] (record { places = []; table = table })
-none_made table birth stamp index = record {
-  count = refl;
-  there = λ i place part at at'. absurd (none-some place at);
-  added = record {
-    fresh = λ i place at. absurd (none-some place at);
-    kept = λ place block e. e;
-    only = λ place block e. inl e;
-  };
-}
+none_made table birth stamp index = grind arith
 
 some_made : (table : Table Block) (birth stamp index : ℕ) (part : Part) (parts : List Part) (first : Made) (rest : MadeParts) → IsMade table birth stamp index part first → AreMade first.table birth stamp (suc index) parts rest
     → AreMade table birth stamp index (part ∷ parts) (record { places = first.place ∷ rest.places; table = rest.table })
@@ -90,38 +68,23 @@ some_made table birth stamp index part parts first rest one more = record {
 }
   where
     first_keeps : (place : ℕ) (block : Block) → block_at table place ≡ Some block → block_at first.table place ≡ Some block
-    first_keeps place block e = elim (cases_eq place first.place) [
-      | inl same ↦ absurd (none-some block (sym one.free.empty ∙ ap (block_at table) (sym same) ∙ e))
-      | inr apart ↦ one.others place apart ∙ e
-    ]
+    first_keeps place block e = grind (arith, cases_eq place first.place)
 
     there : (i place : ℕ) (p : Part) → slice_get (first.place ∷ rest.places) i ≡ Some place → slice_get (part ∷ parts) i ≡ Some p → block_at rest.table place ≡ Some (new_block birth stamp (index + i) p)
-    there zero place p at at' =
-        let block : Block = new_block birth stamp index part in
-        let same_place : first.place ≡ place = same_Some first.place place at in
-        let same_part : part ≡ p = same_Some part p at' in
-        rw (← same_place, ← same_part, add-zero) (more.added.kept first.place block one.there)
-    there (suc i) place p at at' = let e : suc index + i ≡ index + suc i = omega arith in rw (← e) (more.there i place p at at')
+    there i place p at at' = search (arith, same_Some, add-zero)
 
     fresh : (i place : ℕ) → slice_get (first.place ∷ rest.places) i ≡ Some place → block_at table place ≡ None
-    fresh zero place at = rw (← same_Some first.place place at) one.free.empty
-    fresh (suc i) place at = elim (cases_eq place first.place) [
-      | inl same ↦ rw same one.free.empty
-      | inr apart ↦ sym (one.others place apart) ∙ more.added.fresh i place at
-    ]
+    fresh i place at = grind arith
 
     only : (place : ℕ) (block : Block) → block_at rest.table place ≡ Some block → (block_at table place ≡ Some block) ⊎ ((i : ℕ) × (slice_get (first.place ∷ rest.places) i ≡ Some place))
     only place block e = elim (more.added.only place block e) [
-      | inl before ↦ elim (cases_eq place first.place) [
-        | inl same ↦ inr (zero, ap Some (sym same))
-        | inr apart ↦ inl (sym (one.others place apart) ∙ before)
-      ]
+      | inl before ↦ search (arith, cases_eq place first.place)
       | inr at ↦ inr (suc at.0, at.1)
     ]
 
 -- All parts are made or none: if they are, they are new blocks at places that were free
 pub made_parts-are : (parts : List Part) (table : Table Block) (birth stamp index : ℕ) → IsShaped table → (made : MadeParts) → made_parts table birth stamp index parts ≡ Some made → AreMade table birth stamp index parts made
-made_parts-are [] table birth stamp index shaped made e = subst (AreMade table birth stamp index []) (same_Some (record { places = []; table = table }) made e) (none_made table birth stamp index)
+made_parts-are [] table birth stamp index shaped made e = grind arith
 made_parts-are (part ∷ parts) table birth stamp index shaped made e =
     by_first (made_part table birth stamp index part) refl e (λ t s m h. made_parts-are parts t birth stamp (suc index) s m h)
   where
@@ -142,15 +105,14 @@ made_parts-are (part ∷ parts) table birth stamp index shaped made e =
 
 -- and the table stays one of at most 64 slots a page
 pub made_parts-shaped : (parts : List Part) (table : Table Block) (birth stamp index : ℕ) → IsShaped table → (made : MadeParts) → made_parts table birth stamp index parts ≡ Some made → IsShaped made.table
-made_parts-shaped [] table birth stamp index shaped made e = subst (λ (m : MadeParts). IsShaped m.table) (same_Some (record { places = []; table = table }) made e) shaped
+made_parts-shaped [] table birth stamp index shaped made e = grind arith
 made_parts-shaped (part ∷ parts) table birth stamp index shaped made e =
     by_first (made_part table birth stamp index part) refl e (λ t s m h. made_parts-shaped parts t birth stamp (suc index) s m h)
   where
     by_rest : (first : Made) → (rest : Option MadeParts) → made_parts first.table birth stamp (suc index) parts ≡ rest
         → option_map (λ (r : MadeParts). record { places = first.place ∷ r.places; table = r.table }) rest ≡ Some made
         → ((m : MadeParts) → made_parts first.table birth stamp (suc index) parts ≡ Some m → IsShaped m.table) → IsShaped made.table
-    by_rest first None is h more = absurd (none-some made h)
-    by_rest first (Some rest) is h more = subst (λ (m : MadeParts). IsShaped m.table) (same_Some (record { places = first.place ∷ rest.places; table = rest.table }) made h) (more rest is)
+    by_rest first rest is h more = grind arith
 
     by_first : (first : Option Made) → made_part table birth stamp index part ≡ first
         → option_and_then (λ (f : Made). option_map (λ (r : MadeParts). record { places = f.place ∷ r.places; table = r.table }) (made_parts f.table birth stamp (suc index) parts)) first ≡ Some made
@@ -182,22 +144,18 @@ find_place (first ∷ places) place = elim (cases_eq place first) [
 ]
   where
     go : ((i other : ℕ) → slice_get places i ≡ Some other → place ≢ other) → place ≢ first → (i other : ℕ) → slice_get (first ∷ places) i ≡ Some other → place ≢ other
-    go none apart zero other e same = apart (same ∙ sym (same_Some first other e))
-    go none apart (suc i) other e same = none i other e same
+    go none apart is other e same = grind arith
 
 -- a part has as many references as it counts, if its children are among the parts
 pub length-words_of : (places : List ℕ) (count : ℕ) (children : Option ℕ) → ((child : ℕ) → children ≡ Some child → child + count ≤ length places) → length (words_of places count children) ≡ count
-length-words_of places count None inside = length-replicate count None
-length-words_of places count (Some child) inside =
-    length-map (take count (drop child places)) Some ∙ omega (arith, inside child refl, length-take {A = ℕ}, length-drop {A = ℕ})
+length-words_of places count children inside = grind (arith, length-replicate, length-map, length-take, length-drop)
 
 module _ (all : List ℕ) where
   -- what is at no place of these parts stays
   pub linked-other : (places : List ℕ) (parts : List Part) (table : Table Block) (q : ℕ) → ((i other : ℕ) → slice_get places i ≡ Some other → q ≢ other) → block_at (linked_parts all table places parts) q ≡ block_at table q
-  linked-other [] parts table q apart = refl
-  linked-other (place ∷ places) [] table q apart = refl
   linked-other (place ∷ places) (part ∷ parts) table q apart =
       linked-other places parts (with_block_change table place (linked_block all part)) q (λ i other e. apart (suc i) other e) ∙ block_at-with_block_other table place q _ (apart 0 place refl)
+  linked-other places parts table q apart = refl
 
   -- and each part has its references
   linked-here : (places : List ℕ) (parts : List Part) (table : Table Block) → ((i j q : ℕ) → slice_get places i ≡ Some q → slice_get places j ≡ Some q → i ≡ j) → (i q : ℕ) (part : Part) (block : Block) → slice_get places i ≡ Some q → slice_get parts i ≡ Some part → block_at table q ≡ Some block
@@ -205,13 +163,11 @@ module _ (all : List ℕ) where
   linked-here [] parts table distinct i q part block at at' is = absurd (none-some q at)
   linked-here (place ∷ places) [] table distinct i q part block at at' is = absurd (none-some part at')
   linked-here (place ∷ places) (first ∷ parts) table distinct zero q part block at at' is =
-      let here : place ≡ q = same_Some place q at in
-      let same : first ≡ part = same_Some first part at' in
       linked-other places parts (with_block_change table place (linked_block all first)) q (λ i other e is'. zero_suc i (distinct 0 (suc i) q at (e ∙ ap Some (sym is'))))
-      ∙ ap (λ k. block_at (with_block_change table k (linked_block all first)) q) here
+      ∙ ap (λ k. block_at (with_block_change table k (linked_block all first)) q) (same_Some place q at)
       ∙ block_at-with_block_same table q (option_map (linked_block all first) (block_at table q)) (block-slot table q block is)
       ∙ ap (option_map (linked_block all first)) is
-      ∙ ap (λ p. Some (linked_block all p block)) same
+      ∙ ap (λ p. Some (linked_block all p block)) (same_Some first part at')
     where
       zero_suc : (i : ℕ) → 0 ≡ suc i → ⊥
       zero_suc i e = omega (arith, e)
@@ -251,13 +207,10 @@ linked_group table before birth stamp parts place rest are = record {
         let (two, at_two) = same_count (place ∷ rest) parts j q are.count f in
         let there : block_at before q ≡ Some (new_block birth stamp (0 + i) one) = are.there i q one e at_one in
         let there' : block_at before q ≡ Some (new_block birth stamp (0 + j) two) = are.there j q two f at_two in
-        let index : 0 + i ≡ 0 + j = ap (λ (b : Block). b.part) (same_Some (new_block birth stamp (0 + i) one) (new_block birth stamp (0 + j) two) (sym there ∙ there')) in
-        omega (arith, index)
+        omega (arith, ap (λ (b : Block). b.part) (same_Some (new_block birth stamp (0 + i) one) (new_block birth stamp (0 + j) two) (sym there ∙ there')))
 
 group_of-is : (table before : Table Block) (birth stamp : ℕ) (parts : List Part) (places : List ℕ) → AreMade table birth stamp 0 parts (record { places = places; table = before }) → (made : Made) → group_of before places parts ≡ Some made → IsGroup table birth stamp parts made
-group_of-is table before birth stamp parts [] are made e = absurd (none-some made e)
-group_of-is table before birth stamp parts (place ∷ rest) are made e =
-    subst (IsGroup table birth stamp parts) (same_Some (record { place = place; table = linked_parts (place ∷ rest) before (place ∷ rest) parts }) made e) (linked_group table before birth stamp parts place rest are)
+group_of-is table before birth stamp parts places are made e = grind (arith, none-some, same_Some, linked_group)
 
 -- An object is made with all its parts or not at all
 pub made_group-is : (table : Table Block) (birth stamp : ℕ) (parts : List Part) → IsShaped table → (made : Made) → made_group table birth stamp parts ≡ Some made → IsGroup table birth stamp parts made
@@ -265,4 +218,4 @@ made_group-is table birth stamp parts shaped made e = go (made_parts table birth
   where
     go : (all : Option MadeParts) → made_parts table birth stamp 0 parts ≡ all → option_and_then (λ m. group_of m.table m.places parts) all ≡ Some made → IsGroup table birth stamp parts made
     go None is h = absurd (none-some made h)
-    go (Some all) is h = group_of-is table all.table birth stamp parts all.places (made_parts-are parts table birth stamp 0 shaped all is) made h
+    go (Some all) is h = search (arith, group_of-is, made_parts-are)

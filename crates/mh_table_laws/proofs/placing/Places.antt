@@ -1,9 +1,9 @@
 -- Places: reading a table after a write, what the search for a place finds, and a place taken and given back.
-use Rattle.std.proofs.Common.{◌≡◌, ◌≢◌, ℕ, zero, suc, ◌+◌, ◌/◌, ◌%◌, ◌<◌, ◌≤◌, ◌==◌, Bool, true, false, not, if◌then◌else◌, inl, inr, List, [], ◌∷◌, length, get_or, set, Option, Some, None, is_some, is_none, option_map, option_and_then, IsSome, refl, sym, ap, ◌∙◌, subst, arith}
-use Rattle.std.specs.Option.{option_or}
+use Rattle.std.proofs.Common.{◌≡◌, ◌≢◌, ℕ, zero, suc, ◌+◌, ◌<◌, ◌≤◌, ◌==◌, Bool, true, false, not, if◌then◌else◌, List, [], ◌∷◌, length, get_or, set, Option, Some, None, is_some, is_none, option_map, option_and_then, IsSome, refl, sym, ap, ◌∙◌, subst, arith}
 use Rattle.std.proofs.lemmas.Bool.{cases_eq, false≢true, and_parts, not-true, eqb-true}
 use Rattle.std.proofs.lemmas.Option.{none-some, same_Some}
-use Rattle.std.proofs.lemmas.List.{get_or-set_same, get_or-set_other, set-get_or, set-set, length-replicate}
+use Rattle.std.proofs.lemmas.List.{get_or-set_same, get_or-set_other, set-get_or, set-set}
+use Rattle.std.specs.Option.{option_or}
 use Rattle.mh_model.specs.Classes.{slots_in}
 use Rattle.mh_model.specs.Pages.{Page, Table, page_number, slot_number, page_at, block_in, block_at, block_count, is_dense, is_sparse, empty_slot, open_slot, fresh_slot, first_place, least, least_dense_place, least_place, page_with, with_block, page_for, with_taken, with_released, HaveTheirSlots, IsFreeFor}
 use Rattle.mh_table_laws.specs.Placing.{IsFirstEmpty, IsFound, GivesNone, IsLeastOfItsTier}
@@ -21,19 +21,10 @@ module _ {X : Type 0} where
 
   -- and so is each place with a block
   pub block-slot : (table : Table X) (place : ℕ) (block : X) → block_at table place ≡ Some block → IsSlot table place
-  block-slot table place block e = go (page_at table (page_number place)) refl e
-    where
-      go : (content : Option (Page X)) → page_at table (page_number place) ≡ content → option_and_then (block_in (slot_number place)) content ≡ Some block → IsSlot table place
-      go None at h = absurd (none-some block h)
-      go (Some page) at h = record { page = page; in_use = at; within = below_length page.slots (slot_number place) block h }
+  block-slot table place block e = grind (arith, none-some, below_length)
 
   pub block_at-with_block_same : (table : Table X) (place : ℕ) (content : Option X) → IsSlot table place → block_at (with_block table place content) place ≡ content
-  block_at-with_block_same table place content slot =
-      let number = page_number place in
-      let inside : number < length table = below_length table number slot.page slot.in_use in
-      let new = option_map (page_with (slot_number place) content) (page_at table number) in
-      ap (option_and_then (block_in (slot_number place))) (get_or-set_same table number new None inside ∙ ap (option_map (page_with (slot_number place) content)) slot.in_use)
-      ∙ get_or-set_same slot.page.slots (slot_number place) content None slot.within
+  block_at-with_block_same table place content slot = grind (arith, below_length, get_or-set_same)
 
   -- if a block is, it is exchanged
   pub block_at-with_block_there : (table : Table X) (place : ℕ) (content : Option X) → IsSome (block_at table place) → block_at (with_block table place content) place ≡ content
@@ -42,18 +33,11 @@ module _ {X : Type 0} where
   -- a page's own change, read at another slot
   page-other : (table : Table X) (number slot other : ℕ) (content : Option X) → other ≢ slot
       → option_and_then (block_in other) (page_at (set table number (option_map (page_with slot content) (page_at table number))) number) ≡ option_and_then (block_in other) (page_at table number)
-  page-other [] number slot other content apart = refl
-  page-other (None ∷ table) zero slot other content apart = refl
-  page-other (Some page ∷ table) zero slot other content apart = get_or-set_other page.slots slot other content None apart
   page-other (page ∷ table) (suc number) slot other content apart = page-other table number slot other content apart
+  page-other table number slot other content apart = grind (arith, get_or-set_other)
 
   pub block_at-with_block_other : (table : Table X) (place other : ℕ) (content : Option X) → other ≢ place → block_at (with_block table place content) other ≡ block_at table other
-  block_at-with_block_other table place other content apart = elim (cases_eq (page_number other) (page_number place)) [
-    | inl same ↦
-        let slots_apart : slot_number other ≢ slot_number place = λ k. apart (omega arith) in
-        rw same (page-other table (page_number place) (slot_number place) (slot_number other) content slots_apart)
-    | inr pages_apart ↦ ap (option_and_then (block_in (slot_number other))) (get_or-set_other table (page_number place) (page_number other) _ None pages_apart)
-  ]
+  block_at-with_block_other table place other content apart = grind (arith, cases_eq, page-other, get_or-set_other)
 
   -- a block written twice, and one written back
   pub with_block-twice : (table : Table X) (place : ℕ) (first second : Option X) → with_block (with_block table place first) place second ≡ with_block table place second
@@ -62,19 +46,15 @@ module _ {X : Type 0} where
       go : (pages : Table X) (number : ℕ)
           → set (set pages number (option_map (page_with (slot_number place) first) (page_at pages number))) number (option_map (page_with (slot_number place) second) (page_at (set pages number (option_map (page_with (slot_number place) first) (page_at pages number))) number))
           ≡ set pages number (option_map (page_with (slot_number place) second) (page_at pages number))
-      go [] number = refl
-      go (None ∷ pages) zero = refl
-      go (Some page ∷ pages) zero = ap (λ slots. Some (record page { slots = slots }) ∷ pages) (set-set page.slots (slot_number place) first second)
       go (page ∷ pages) (suc number) = ap (λ rest. page ∷ rest) (go pages number)
+      go pages number = grind (arith, set-set)
 
   pub with_block-self : (table : Table X) (place : ℕ) → with_block table place (block_at table place) ≡ table
   with_block-self table place = go table (page_number place)
     where
       go : (pages : Table X) (number : ℕ) → set pages number (option_map (page_with (slot_number place) (option_and_then (block_in (slot_number place)) (page_at pages number))) (page_at pages number)) ≡ pages
-      go [] number = refl
-      go (None ∷ pages) zero = refl
-      go (Some page ∷ pages) zero = ap (λ slots. Some (record page { slots = slots }) ∷ pages) (set-get_or page.slots (slot_number place) None)
       go (page ∷ pages) (suc number) = ap (λ rest. page ∷ rest) (go pages number)
+      go pages number = grind (arith, set-get_or)
 
   -- no page has more than 64 slots
   abbrev pub IsShaped : Table X → Type 0
@@ -84,53 +64,31 @@ module _ {X : Type 0} where
   pub shaped-slots : (table : Table X) → HaveTheirSlots table → IsShaped table
   shaped-slots table have number page at =
       let has = have number page at in
-      let few = (slots_in-class_size page.class_size has.class).1 in
-      omega (arith, has.slots, few)
+      omega (arith, has.slots, (slots_in-class_size page.class_size has.class).1)
 
   -- The search -----------------------------------------------------------------------------------
 
   found_here : (slot_of : Option (Page X) → Option ℕ) (page : Option (Page X)) (table : Table X) (slot : ℕ) → slot < 64 → slot_of page ≡ Some slot → IsFound slot_of (page ∷ table) slot
-  found_here slot_of page table slot small e =
-      let a : slot / 64 ≡ 0 = omega arith in
-      let b : slot % 64 ≡ slot = omega arith in
-      record { inside = omega (arith, a); gives = rw (a, b) e; first = λ number h. absurd (omega (arith, a)) }
+  found_here slot_of page table slot small e = grind arith
 
   found_after : (slot_of : Option (Page X) → Option ℕ) (page : Option (Page X)) (table : Table X) (place : ℕ) → slot_of page ≡ None → IsFound slot_of table place → IsFound slot_of (page ∷ table) (64 + place)
-  found_after slot_of page table place e found =
-      let a : (64 + place) / 64 ≡ suc (place / 64) = omega arith in
-      let b : (64 + place) % 64 ≡ place % 64 = omega arith in
-      record {
-        inside = omega (arith, a, found.inside);
-        gives = rw (a, b) found.gives;
-        first = λ number l. before number (omega (arith, a, l));
-      }
-    where
-      before : (number : ℕ) → number < suc (place / 64) → slot_of (page_at (page ∷ table) number) ≡ None
-      before zero l = e
-      before (suc number) l = found.first number (omega arith)
+  found_after slot_of page table place e found = grind arith
 
   pub least-is : (slot_of : Option (Page X) → Option ℕ) (table : Table X) → ((number slot : ℕ) → slot_of (page_at table number) ≡ Some slot → slot < 64) → (place : ℕ) → least slot_of table ≡ Some place → IsFound slot_of table place
   least-is slot_of [] small place e = absurd (none-some place e)
   least-is slot_of (page ∷ table) small place e = go (slot_of page) refl (least slot_of table) e (λ after k. least-is slot_of table (λ number slot h. small (suc number) slot h) after k)
     where
       go : (here : Option ℕ) → slot_of page ≡ here → (rest : Option ℕ) → first_place here rest ≡ Some place → ((after : ℕ) → rest ≡ Some after → IsFound slot_of table after) → IsFound slot_of (page ∷ table) place
-      go (Some slot) is rest h after = subst (IsFound slot_of (page ∷ table)) (same_Some slot place h) (found_here slot_of page table slot (small zero slot is) is)
+      go (Some slot) is rest h after = grind (arith, same_Some slot place h, found_here slot_of page table slot (small zero slot is) is)
       go None is None h after = absurd (none-some place h)
-      go None is (Some q) h after = subst (IsFound slot_of (page ∷ table)) (same_Some (64 + q) place h) (found_after slot_of page table q is (after q refl))
+      go None is (Some q) h after = grind (arith, same_Some (64 + q) place h, found_after slot_of page table q is (after q refl))
 
   pub least-some : (slot_of : Option (Page X) → Option ℕ) (table : Table X) (number : ℕ) → number < length table → IsSome (slot_of (page_at table number)) → IsSome (least slot_of table)
-  least-some slot_of [] number inside given = absurd (omega arith)
-  least-some slot_of (page ∷ table) zero inside given = here (slot_of page) (least slot_of table) given
-    where
-      here : (o rest : Option ℕ) → IsSome o → IsSome (first_place o rest)
-      here None rest i = absurd (false≢true i)
-      here (Some slot) rest i = refl
   least-some slot_of (page ∷ table) (suc number) inside given = there (slot_of page) (least slot_of table) (least-some slot_of table number (omega arith) given)
     where
       there : (o rest : Option ℕ) → IsSome rest → IsSome (first_place o rest)
-      there (Some slot) rest i = refl
-      there None None i = i
-      there None (Some q) i = refl
+      there o rest i = grind arith
+  least-some slot_of table number inside given = grind (arith, false≢true)
 
   pub least-none : (slot_of : Option (Page X) → Option ℕ) (table : Table X) → least slot_of table ≡ None → GivesNone slot_of table
   least-none slot_of table none number inside = go (slot_of (page_at table number)) refl
@@ -140,19 +98,17 @@ module _ {X : Type 0} where
       go (Some slot) is = absurd (false≢true (sym (ap is_some none) ∙ least-some slot_of table number inside (ap is_some is)))
 
   pub empty_slot-is : (slots : List (Option X)) (slot : ℕ) → empty_slot slots ≡ Some slot → IsFirstEmpty slots slot
-  empty_slot-is [] slot e = absurd (none-some slot e)
-  empty_slot-is (None ∷ slots) slot e = subst (IsFirstEmpty (None ∷ slots)) (same_Some 0 slot e) (record { within = omega arith; empty = refl; first = λ other h. absurd (omega arith) })
   empty_slot-is (Some block ∷ slots) slot e = go (empty_slot slots) e (λ after h. empty_slot-is slots after h)
     where
       first_after : (after : ℕ) → IsFirstEmpty slots after → (other : ℕ) → other < suc after → IsSome (get_or (Some block ∷ slots) other None)
-      first_after after k zero h = refl
-      first_after after k (suc other) h = k.first other (omega arith)
+      first_after after k other h = grind arith
 
       go : (rest : Option ℕ) → option_map suc rest ≡ Some slot → ((after : ℕ) → rest ≡ Some after → IsFirstEmpty slots after) → IsFirstEmpty (Some block ∷ slots) slot
       go None h ih = absurd (none-some slot h)
       go (Some after) h ih =
           let k = ih after refl in
           subst (IsFirstEmpty (Some block ∷ slots)) (same_Some (suc after) slot h) (record { within = omega (arith, k.within); empty = k.empty; first = first_after after k })
+  empty_slot-is slots slot e = grind (arith, none-some, same_Some)
 
   -- an open slot is the first without a block, of a page in use that passes the test
   pub record IsOpen (test : Page X → Bool) (content : Option (Page X)) (slot : ℕ) : Type 0 where
@@ -166,12 +122,11 @@ module _ {X : Type 0} where
   open_slot-is test (Some page) slot e = go (test page) refl e
     where
       go : (passes : Bool) → test page ≡ passes → (if passes then empty_slot page.slots else None) ≡ Some slot → IsOpen test (Some page) slot
-      go true is h = record { page = page; in_use = refl; passes = is; empty = empty_slot-is page.slots slot h }
+      go true is h = search (arith, empty_slot-is)
       go false is h = absurd (none-some slot h)
 
   fresh_slot-is : (content : Option (Page X)) (slot : ℕ) → fresh_slot content ≡ Some slot → (content ≡ None) × (slot ≡ 0)
-  fresh_slot-is None slot e = (refl, sym (same_Some 0 slot e))
-  fresh_slot-is (Some page) slot e = absurd (none-some slot e)
+  fresh_slot-is content slot e = grind arith
 
   -- The first tier -------------------------------------------------------------------------------
 
@@ -179,10 +134,7 @@ module _ {X : Type 0} where
   least_open-is test table shaped place e = least-is (open_slot test) table small place e
     where
       small : (number slot : ℕ) → open_slot test (page_at table number) ≡ Some slot → slot < 64
-      small number slot h =
-          let open_there = open_slot-is test (page_at table number) slot h in
-          let few : length (open_there.page).slots ≤ 64 = shaped number open_there.page open_there.in_use in
-          omega (arith, open_there.empty.within)
+      small number slot h = grind (arith, open_slot-is test (page_at table number) slot h)
 
   -- The first tier's place is in a page in use that is unflagged and of the class, and no slot before it there and no page below it has room
   pub least_dense_place-is : (table : Table X) (size : ℕ) → IsShaped table → (place : ℕ) → least_dense_place table size ≡ Some place → IsFound (open_slot (is_dense size)) table place
@@ -199,32 +151,20 @@ module _ {X : Type 0} where
 
   open-free : (test : Page X → Bool) (table : Table X) (size : ℕ) → ((page : Page X) → test page ≡ true → page.class_size ≡ size) → IsShaped table → (place : ℕ) → least (open_slot test) table ≡ Some place → IsFreeFor table size place
   open-free test table size of_class shaped place e =
-      let found = least_open-is test table shaped place e in
-      let there = open_slot-is test (page_at table (page_number place)) (slot_number place) found.gives in
-      record {
-        inside = found.inside;
-        empty = ap (option_and_then (block_in (slot_number place))) there.in_use ∙ there.empty.empty;
-        within = subst (λ p. slot_number place < length (page_for size p).slots) (sym there.in_use) there.empty.within;
-        of_class = subst (λ p. (page_for size p).class_size ≡ size) (sym there.in_use) (of_class there.page there.passes);
-      }
+      let there = open_slot-is test (page_at table (page_number place)) (slot_number place) (least_open-is test table shaped place e).gives in
+      grind arith
 
   fresh-free : (table : Table X) (size : ℕ) → 0 < slots_in size → (place : ℕ) → least fresh_slot table ≡ Some place → IsFreeFor table size place
   fresh-free table size some_slot place e =
       let found = least-is fresh_slot table (λ number slot h. omega (arith, (fresh_slot-is (page_at table number) slot h).1)) place e in
       let (free, first) = fresh_slot-is (page_at table (page_number place)) (slot_number place) found.gives in
-      let room : length (page_for {X = X} size None).slots ≡ slots_in size = length-replicate (slots_in size) None in
-      record {
-        inside = found.inside;
-        empty = ap (option_and_then (block_in (slot_number place))) free;
-        within = subst (λ p. slot_number place < length (page_for size p).slots) (sym free) (omega (arith, room));
-        of_class = subst (λ p. (page_for size p).class_size ≡ size) (sym free) refl;
-      }
+      grind arith
 
   dense-class : (size : ℕ) (page : Page X) → is_dense size page ≡ true → page.class_size ≡ size
-  dense-class size page e = eqb-true page.class_size size (and_parts (page.class_size == size) (not page.is_flagged) e).0
+  dense-class size page e = grind arith
 
   sparse-class : (size : ℕ) (page : Page X) → is_sparse size page ≡ true → page.class_size ≡ size
-  sparse-class size page e = eqb-true page.class_size size (and_parts (page.class_size == size) page.is_flagged e).0
+  sparse-class size page e = grind arith
 
   -- What is found for a class is free for it
   pub least_place-free : (table : Table X) (size : ℕ) → IsShaped table → 0 < slots_in size → (place : ℕ) → least_place table size ≡ Some place → IsFreeFor table size place
@@ -233,16 +173,11 @@ module _ {X : Type 0} where
       go : (dense : Option ℕ) → least_dense_place table size ≡ dense → (fresh : Option ℕ) → least fresh_slot table ≡ fresh → option_or dense (option_or fresh (least (open_slot (is_sparse size)) table)) ≡ Some place → IsFreeFor table size place
       go (Some q) is fresh is' h = open-free (is_dense size) table size (dense-class size) shaped place (is ∙ h)
       go None is (Some q) is' h = fresh-free table size some_slot place (is' ∙ h)
-      go None is None is' h = open-free (is_sparse size) table size (sparse-class size) shaped place h
+      go None is None is' h = search (arith, open-free, sparse-class)
 
   -- The least place is the least of the first tier that gives one
   pub least_place-least : (table : Table X) (size : ℕ) → IsShaped table → (place : ℕ) → least_place table size ≡ Some place → IsLeastOfItsTier table size place
-  least_place-least table size shaped place e = go (least_dense_place table size) refl (least fresh_slot table) refl e
-    where
-      go : (dense : Option ℕ) → least_dense_place table size ≡ dense → (fresh : Option ℕ) → least fresh_slot table ≡ fresh → option_or dense (option_or fresh (least (open_slot (is_sparse size)) table)) ≡ Some place → IsLeastOfItsTier table size place
-      go (Some q) is fresh is' h = inl (least_open-is (is_dense size) table shaped place (is ∙ h))
-      go None is (Some q) is' h = inr (inl (least-none (open_slot (is_dense size)) table is, least-is fresh_slot table (λ number slot k. omega (arith, (fresh_slot-is (page_at table number) slot k).1)) place (is' ∙ h)))
-      go None is None is' h = inr (inr (least-none (open_slot (is_dense size)) table is, least-none fresh_slot table is', least_open-is (is_sparse size) table shaped place h))
+  least_place-least table size shaped place e = grind (arith, least_open-is, least-none, least-is, fresh_slot-is)
 
   -- Taking and giving back -----------------------------------------------------------------------
 
@@ -252,47 +187,33 @@ module _ {X : Type 0} where
 
   -- what is there after a place was taken
   pub block_at-with_taken_same : (table : Table X) (size place : ℕ) (block : X) → IsFreeFor table size place → block_at (with_taken table size place block) place ≡ Some block
-  block_at-with_taken_same table size place block free =
-      ap (option_and_then (block_in (slot_number place))) (taken_page table size place block free)
-      ∙ get_or-set_same (page_for size (page_at table (page_number place))).slots (slot_number place) (Some block) None free.within
+  block_at-with_taken_same table size place block free = grind (arith, taken_page, get_or-set_same)
 
   pub block_in-page_for : (content : Option (Page X)) (size slot : ℕ) → block_in slot (page_for size content) ≡ option_and_then (block_in slot) content
-  block_in-page_for None size slot = none_at (slots_in size) slot
-  block_in-page_for (Some page) size slot = refl
+  block_in-page_for content size slot = grind (arith, none_at)
 
   taken-other_slot : (table : Table X) (number size slot other : ℕ) (block : X) → other ≢ slot
       → option_and_then (block_in other) (page_at (set table number (Some (page_with slot (Some block) (page_for size (page_at table number))))) number) ≡ option_and_then (block_in other) (page_at table number)
-  taken-other_slot [] number size slot other block apart = refl
-  taken-other_slot (page ∷ table) zero size slot other block apart = get_or-set_other (page_for size page).slots slot other (Some block) None apart ∙ block_in-page_for page size other
   taken-other_slot (page ∷ table) (suc number) size slot other block apart = taken-other_slot table number size slot other block apart
+  taken-other_slot table number size slot other block apart = grind (arith, get_or-set_other, block_in-page_for)
 
   pub block_at-with_taken_other : (table : Table X) (size place other : ℕ) (block : X) → other ≢ place → block_at (with_taken table size place block) other ≡ block_at table other
-  block_at-with_taken_other table size place other block apart = elim (cases_eq (page_number other) (page_number place)) [
-    | inl same ↦
-        let slots_apart : slot_number other ≢ slot_number place = λ k. apart (omega arith) in
-        rw same (taken-other_slot table (page_number place) size (slot_number place) (slot_number other) block slots_apart)
-    | inr pages_apart ↦ ap (option_and_then (block_in (slot_number other))) (get_or-set_other table (page_number place) (page_number other) _ None pages_apart)
-  ]
+  block_at-with_taken_other table size place other block apart = grind (arith, cases_eq, taken-other_slot, get_or-set_other)
 
   -- where a block was, it still is
   pub block_at-with_taken_there : (table : Table X) (size place other : ℕ) (block : X) → IsFreeFor table size place → IsSome (block_at table other) → block_at (with_taken table size place block) other ≡ block_at table other
-  block_at-with_taken_there table size place other block free there =
-      block_at-with_taken_other table size place other block (λ same. false≢true (sym (ap is_some free.empty) ∙ ap (λ q. is_some (block_at table q)) (sym same) ∙ there))
+  block_at-with_taken_there table size place other block free there = grind (arith, block_at-with_taken_other, false≢true, there)
 
   -- a block put and then exchanged is the other one put
   pub with_block-with_taken : (table : Table X) (size place : ℕ) (block other : X) → IsFreeFor table size place → with_block (with_taken table size place block) place (Some other) ≡ with_taken table size place other
-  with_block-with_taken table size place block other free =
-      let page : Page X = page_for size (page_at table (page_number place)) in
-      ap (λ content. set (with_taken table size place block) (page_number place) (option_map (page_with (slot_number place) (Some other)) content)) (taken_page table size place block free)
-      ∙ set-set table (page_number place) _ _
-      ∙ ap (λ slots. set table (page_number place) (Some (record page { slots = slots }))) (set-set page.slots (slot_number place) (Some block) (Some other))
+  with_block-with_taken table size place block other free = grind (arith, taken_page, set-set)
 
   -- A place taken in a free page and given back with it leaves the table
   pub with_released-fresh : (table : Table X) (size place : ℕ) (block : X) → page_at table (page_number place) ≡ None → with_released (with_taken table size place block) place true ≡ table
   with_released-fresh table size place block free = set_back table (page_number place) _ free
 
   page_back : (page : Page X) (slot : ℕ) (content : Option X) → block_in slot page ≡ None → page_with slot None (page_with slot content page) ≡ page
-  page_back page slot content e = ap (λ slots. record page { slots = slots }) (set_back page.slots slot content e)
+  page_back page slot content e = grind (arith, set_back)
 
   -- and so does one taken in a page in use and given back alone
   pub with_released-taken : (table : Table X) (size place : ℕ) (block : X) (page : Page X) → page_at table (page_number place) ≡ Some page → block_at table place ≡ None → with_released (with_taken table size place block) place false ≡ table
@@ -301,30 +222,20 @@ module _ {X : Type 0} where
       go : (pages : Table X) (number : ℕ) → page_at pages number ≡ Some page → block_in (slot_number place) page ≡ None
           → set (set pages number (Some (page_with (slot_number place) (Some block) (page_for size (page_at pages number))))) number
           (option_map (page_with (slot_number place) None) (page_at (set pages number (Some (page_with (slot_number place) (Some block) (page_for size (page_at pages number))))) number)) ≡ pages
-      go [] number e e' = refl
-      go (None ∷ pages) zero e e' = absurd (none-some page e)
-      go (Some p ∷ pages) zero e e' = ap (λ q. Some q ∷ pages) (page_back p (slot_number place) (Some block) (ap (block_in (slot_number place)) (same_Some p page e) ∙ e'))
       go (p ∷ pages) (suc number) e e' = ap (λ ps. p ∷ ps) (go pages number e e')
+      go pages number e e' = grind (arith, none-some, page_back, same_Some)
 
   -- A place taken and given back, its page with it where that was free, leaves the table
   pub with_released-with_taken : (table : Table X) (size place : ℕ) (block : X) → block_at table place ≡ None → with_released (with_taken table size place block) place (is_none (page_at table (page_number place))) ≡ table
-  with_released-with_taken table size place block empty = go (page_at table (page_number place)) refl
-    where
-      go : (content : Option (Page X)) → page_at table (page_number place) ≡ content → with_released (with_taken table size place block) place (is_none content) ≡ table
-      go None at = with_released-fresh table size place block at
-      go (Some page) at = with_released-taken table size place block page at empty
+  with_released-with_taken table size place block empty = grind (arith, with_released-fresh, with_released-taken)
 
   -- A page has one block less after one that is taken away
   pub block_count-removed : (slots : List (Option X)) (slot : ℕ) → IsSome (get_or slots slot None) → block_count (set slots slot None) + 1 ≡ block_count slots
-  block_count-removed [] slot e = absurd (false≢true e)
-  block_count-removed (None ∷ slots) zero e = absurd (false≢true e)
-  block_count-removed (Some block ∷ slots) zero e = omega arith
   block_count-removed (None ∷ slots) (suc slot) e = block_count-removed slots slot e
   block_count-removed (Some block ∷ slots) (suc slot) e = omega (arith, block_count-removed slots slot e)
+  block_count-removed slots slot e = grind (arith, false≢true)
 
   -- and if none has a block each slot is empty
   pub block_count-none : (slots : List (Option X)) (slot : ℕ) → block_count slots ≡ 0 → get_or slots slot None ≡ None
-  block_count-none [] slot none = refl
-  block_count-none (None ∷ slots) zero none = refl
   block_count-none (None ∷ slots) (suc slot) none = block_count-none slots slot none
-  block_count-none (Some block ∷ slots) slot none = absurd (omega arith)
+  block_count-none slots slot none = grind arith

@@ -1,27 +1,19 @@
 -- The words of a page: its slots have room for the blocks of its class, and each block fits its slot.
-use Rattle.std.proofs.Common.{◌≡◌, ℕ, ◌+◌, ◌*◌, ◌≤◌, ◌==◌, ◌||◌, ◌&&◌, not, Bool, true, false, nat_le, if◌then◌else◌, inl, inr, List, [], ◌∷◌, length, get_or, set, Option, Some, None, option_map, option_and_then, unwrap_or, find, refl, sym, ap, ◌∙◌, subst, arith}
-use Rattle.std.proofs.lemmas.Bool.{and_parts, leb-true}
-use Rattle.std.proofs.lemmas.Option.{none-some, same_Some}
-use Rattle.std.proofs.Math.Nat.{mul-le-mul_right}
+use Rattle.std.proofs.Common.{◌≡◌, ℕ, ◌+◌, ◌*◌, ◌≤◌, ◌&&◌, Bool, true, nat_le, if◌then◌else◌, inl, inr, List, [], ◌∷◌, length, get_or, set, Option, Some, None, option_map, option_and_then, unwrap_or, find, refl, sym, ap, ◌∙◌, subst, arith}
+use Rattle.std.proofs.{lemmas.Bool.{and_parts, leb-true}, lemmas.Option.{none-some, same_Some}}
 use Rattle.std.proofs.lemmas.List.{length-set, length-replicate, set-get_or}
-use Rattle.mh_model.specs.Classes.{class_sizes, class_of, slots_in}
+use Rattle.mh_model.specs.Classes.{class_of, slots_in}
 use Rattle.mh_model.specs.Pages.{Page, Table, page_number, slot_number, page_at, block_in, block_at, page_with, with_block, page_for, with_taken}
-use Rattle.mh_model.specs.Table.{Block, is_forwarder}
-use Rattle.mh_model.specs.Collector.{survivor, is_last_slot, is_marked, judged_page, swept_page, swept_table}
+use Rattle.mh_model.specs.{Table.Block, Collector.{survivor, is_last_slot, judged_page, swept_page, swept_table}}
 use Rattle.mh_model.specs.CycleBounds.{IsRoomyPage, IsRoomy}
-use Rattle.mh_table_laws.proofs.Lists.{find-passes, get_or-set_either, none_at}
-use Rattle.mh_table_laws.proofs.placing.Places.{IsShaped}
-use Rattle.mh_table_laws.proofs.tables.PageSlots.{judged_page-is}
+use Rattle.mh_table_laws.proofs.{Lists.{find-passes, get_or-set_either, none_at}, placing.Places.IsShaped}
 use Rattle.mh_table_laws.specs.Tables.{IsSized}
 
 -- Pages ------------------------------------------------------------------------------------------
 
 -- a class of at least 4 words has at most 64 slots
 pub few_slots : (page : Page Block) → IsRoomyPage page → length page.slots ≤ 64
-few_slots page roomy = few page.class_size (length page.slots) roomy.least roomy.words
-  where
-    few : (size count : ℕ) → 4 ≤ size → size * count ≤ 256 → count ≤ 64
-    few size count least words = omega (arith, mul-le-mul_right count least)
+few_slots page roomy = grind arith
 
 pub roomy-shaped : (table : Table Block) → IsRoomy table → IsShaped table
 roomy-shaped table roomy number page e = few_slots page (roomy.pages number page e)
@@ -30,8 +22,7 @@ pub roomy-sized : (table : Table Block) → IsRoomy table → IsSized table
 roomy-sized table roomy = record { classes = λ number page e. (roomy.pages number page e).most; references = λ place. by_page place (page_at table (page_number place)) refl }
   where
     by_block : (page : Page Block) (slot : ℕ) → IsRoomyPage page → (block : Option Block) → block_in slot page ≡ block → length (unwrap_or (option_map (λ b. b.references) block) []) ≤ 60
-    by_block page slot one None e = omega arith
-    by_block page slot one (Some block) e = omega (arith, one.blocks slot block e, one.most)
+    by_block page slot one block e = grind arith
 
     by_page : (place : ℕ) (page : Option (Page Block)) → page_at table (page_number place) ≡ page → length (unwrap_or (option_map (λ b. b.references) (option_and_then (block_in (slot_number place)) page)) []) ≤ 60
     by_page place None e = omega arith
@@ -53,8 +44,7 @@ set-roomy table number content roomy new = record {
 }
 
 mapped-some : {A B : Type 0} (f : A → B) (content : Option A) (b : B) → option_map f content ≡ Some b → (a : A) × (content ≡ Some a) × (f a ≡ b)
-mapped-some f None b e = absurd (none-some b e)
-mapped-some f (Some a) b e = (a, refl, same_Some (f a) b e)
+mapped-some f content b e = grind arith
 
 -- a block written to a place of a page in use
 pub with_block-roomy : (table : Table Block) (place : ℕ) (content : Option Block) → IsRoomy table
@@ -90,32 +80,20 @@ abbrev is_class : ℕ → Bool
 is_class size = nat_le 4 size && (nat_le size 64 && nat_le (size * slots_in size) 256)
 
 pub class_of-is : (words size : ℕ) → class_of words ≡ Some size → IsClass size
-class_of-is words size e = go (words == 0) e
-  where
-    go : (b : Bool) → (if b then None else find (λ s. nat_le words s) class_sizes) ≡ Some size → IsClass size
-    go true h = absurd (none-some size h)
-    go false h =
-        let (least, rest) = and_parts (nat_le 4 size) (nat_le size 64 && nat_le (size * slots_in size) 256) (find-passes (λ s. nat_le words s) is_class class_sizes size refl h) in
-        let (most, fits) = and_parts (nat_le size 64) (nat_le (size * slots_in size) 256) rest in
-        record { least = leb-true 4 size least; most = leb-true size 64 most; words = leb-true (size * slots_in size) 256 fits }
+class_of-is words size e = search (arith, nat_le, none-some, and_parts, find-passes, leb-true)
 
 find-passed : {X : Type 0} (test : X → Bool) (xs : List X) (x : X) → find test xs ≡ Some x → test x ≡ true
 find-passed test [] x e = absurd (none-some x e)
 find-passed test (y ∷ xs) x e = go (test y) refl e (λ h. find-passed test xs x h)
   where
     go : (b : Bool) → test y ≡ b → (if b then Some y else find test xs) ≡ Some x → (find test xs ≡ Some x → test x ≡ true) → test x ≡ true
-    go true is h ih = ap test (sym (same_Some y x h)) ∙ is
-    go false is h ih = ih h
+    go b is h ih = grind arith
 
 pub class_of-fits : (words size : ℕ) → class_of words ≡ Some size → words ≤ size
-class_of-fits words size e = go (words == 0) e
-  where
-    go : (b : Bool) → (if b then None else find (λ s. nat_le words s) class_sizes) ≡ Some size → words ≤ size
-    go true h = absurd (none-some size h)
-    go false h = leb-true words size (find-passed (λ s. nat_le words s) class_sizes size h)
+class_of-fits words size e = search (arith, nat_le, none-some, leb-true, find-passed)
 
 page_for-roomy : (size : ℕ) (content : Option (Page Block)) → IsClass size → ((page : Page Block) → content ≡ Some page → IsRoomyPage page) → IsRoomyPage (page_for size content)
-page_for-roomy size None class roomy = record { least = class.least; most = class.most; words = rw (length-replicate {A = Option Block} (slots_in size) None) class.words; blocks = λ slot block e. absurd (none-some block (sym (none_at (slots_in size) slot) ∙ e)) }
+page_for-roomy size None class roomy = grind (arith, length-replicate, none-some, none_at)
 page_for-roomy size (Some page) class roomy = roomy page refl
 
 -- a block placed in a page of its class
@@ -134,21 +112,10 @@ with_taken-roomy table size place block roomy class of_class fits = set-roomy ta
 -- Sweep and moves --------------------------------------------------------------------------------
 
 pub survivor-same : (cycle : ℕ) (block left : Block) → survivor cycle block ≡ Some left → block ≡ left
-survivor-same cycle block left e = go (is_forwarder block || not (is_marked cycle block)) e
-  where
-    go : (b : Bool) → (if b then None else Some block) ≡ Some left → block ≡ left
-    go true h = absurd (none-some left h)
-    go false h = same_Some block left h
+survivor-same cycle block left e = grind arith
 
 judged-roomy : (table : Table Block) (number : ℕ) (page new : Page Block) → IsRoomyPage page → judged_page table number page ≡ Some new → IsRoomyPage new
-judged-roomy table number page new roomy e =
-    let judged = judged_page-is table number page new e in
-    record {
-      least = rw judged.class roomy.least;
-      most = rw judged.class roomy.most;
-      words = rw (judged.class, judged.slots) roomy.words;
-      blocks = λ slot block at. rw judged.class (roomy.blocks slot block (ap (λ slots. get_or slots slot None) (sym judged.slots) ∙ at));
-    }
+judged-roomy table number page new roomy e = grind arith
 
 swept_page-roomy : (cycle : ℕ) (table : Table Block) (place : ℕ) (page new : Page Block) → IsRoomyPage page → swept_page cycle table place page ≡ Some new → IsRoomyPage new
 swept_page-roomy cycle table place page new roomy e = go (is_last_slot place page) e
@@ -160,15 +127,13 @@ swept_page-roomy cycle table place page new roomy e = go (is_last_slot place pag
     swept = page_with (slot_number place) content page
 
     by_old : (old : Option Block) (left : Block) → block_in (slot_number place) page ≡ old → option_and_then (survivor cycle) old ≡ Some left → length left.references + 4 ≤ page.class_size
-    by_old None left at h = absurd (none-some left h)
-    by_old (Some old) left at h = rw (← survivor-same cycle old left h) (roomy.blocks (slot_number place) old at)
+    by_old old left at h = grind arith
 
     one : IsRoomyPage swept
-    one = page_with-roomy page (slot_number place) content roomy (λ left h. by_old (block_in (slot_number place) page) left refl h)
+    one = search (arith, page_with-roomy, content, by_old)
 
     go : (b : Bool) → (if b then judged_page table (page_number place) swept else Some swept) ≡ Some new → IsRoomyPage new
-    go true h = judged-roomy table (page_number place) swept new one h
-    go false h = subst IsRoomyPage (same_Some swept new h) one
+    go b h = grind (arith, judged-roomy, swept, one, same_Some)
 
 -- a sweep step leaves pages roomy
 pub swept-roomy : (cycle : ℕ) (table : Table Block) (place : ℕ) → IsRoomy table → IsRoomy (swept_table cycle table place)
@@ -186,5 +151,4 @@ pub with_block-none : (table : Table Block) (place : ℕ) → block_at table pla
 with_block-none table place e = set_same table (page_number place) _ (go (page_at table (page_number place)) e)
   where
     go : (content : Option (Page Block)) → option_and_then (block_in (slot_number place)) content ≡ None → content ≡ option_map (page_with (slot_number place) None) content
-    go None h = refl
-    go (Some page) h = ap (λ slots. Some (record page { slots = slots })) (sym (set_same page.slots (slot_number place) None h))
+    go content h = grind (arith, set_same)

@@ -1,47 +1,30 @@
 -- The record of a legal history of version 1 is a legal history of version 2 with the same entries.
-use Rattle.std.proofs.Common.{◌≡◌, ◌∙◌, ℕ, suc, ◌-◌, ◌≤◌, true, List, [], ◌∷◌, length, map, ap, sym, refl, subst, arith}
+use Rattle.std.proofs.Common.{◌≡◌, ◌∙◌, ℕ, suc, ◌≤◌, true, List, [], ◌∷◌, length, map, ap, refl, subst, arith}
+use Rattle.std.proofs.{lemmas.Bool.{and_parts, and_from, lt-ltb}, lemmas.List.length-map}
 use Rattle.std.specs.List.{list_all}
-use Rattle.std.proofs.lemmas.Bool.{and_parts, and_from, lt-ltb}
-use Rattle.std.proofs.lemmas.List.{length-map}
-use Rattle.mh_model.specs.declared.config.Config.{Config}
-use Rattle.mh_model.specs.declared.config.Rules.TheVariants.{First}
-use Rattle.mh_model.specs.declared.command.Event.{Event}
-use Rattle.mh_model.specs.declared.command.Event.TheVariants as event
-use Rattle.mh_model.specs.declared.reply.Reply.{Reply}
-use Rattle.mh_model.specs.declared.reply.Reply.TheVariants as reply
-use Rattle.mh_model.specs.declared.history.Entry.{Entry}
-use Rattle.mh_model.specs.Limits.{most_entries}
-use Rattle.mh_model.specs.Bytes.{Text}
-use Rattle.mh_model.specs.Forms.{u64}
-use Rattle.mh_model.specs.declared.history.Version.TheVariants.{One, Two}
-use Rattle.mh_model.specs.Replies.{is_reply, are_u64}
-use Rattle.mh_model.specs.Script.{Reading, BadLine, Means}
-use Rattle.mh_model.specs.Trace.{mutator_count, collector_count}
+use Rattle.mh_model.specs.{declared.config.Config.Config, declared.config.Rules.TheVariants.First}
+use Rattle.mh_model.specs.{declared.command.Event.Event, declared.reply.Reply.Reply, declared.history.Entry.Entry}
+use Rattle.mh_model.specs.{Limits.most_entries, Bytes.Text, declared.history.Version.TheVariants.{One, Two}}
+use Rattle.mh_model.specs.{Replies.{is_reply, are_u64}, Script.{Reading, Means}}
 use Rattle.mh_model.specs.Machine.{Machine, first_machine, event_step, machine_replies}
 use Rattle.mh_model.specs.History.{IsLegal, events_of, replies_of}
-use Rattle.mh_model.specs.HistoryTexts.{IsMigratedTo, is_event, is_entry, is_measured, measured_step, machine_record, history_text, history_reading, migrated, migration_text, IsJudged, IsChecked, IsAudited, measured_events}
-use Rattle.mh_model.specs.declared.history.Verdict.{Verdict}
-use Rattle.mh_model.specs.declared.history.Verdict.TheVariants.{Refused, Legal}
+use Rattle.mh_model.specs.HistoryTexts.{IsMigratedTo, is_event, is_entry, is_measured, measured_step, machine_record, history_text, history_reading, migrated, migration_text, IsChecked, IsAudited, measured_events}
+use Rattle.mh_model.specs.declared.history.Verdict.TheVariants.{Legal}
 use Rattle.mh_text_laws.specs.Migration.{IsMigrated}
-use Rattle.mh_text_laws.proofs.ListLemmas.{first_same, others_same}
-use Rattle.mh_text_laws.proofs.round_trips.HeaderRoundTrips.{config_limits}
+use Rattle.mh_text_laws.proofs.{ListLemmas.{first_same, others_same}, round_trips.HeaderRoundTrips.config_limits}
 use Rattle.mh_text_laws.proofs.round_trips.HistoryRoundTrips.{recorded_reading-text}
-use Rattle.mh_text_laws.proofs.rewritings.HistoriesWrittenAgain.{history_reading_is}
-use Rattle.mh_text_laws.proofs.verdicts.OneVerdict.{checked-once}
-use Rattle.mh_text_laws.proofs.verdicts.SomeVerdict.{texts_checked}
-use Rattle.mh_text_laws.proofs.migration.LettersAdded.{event_adds}
+use Rattle.mh_text_laws.proofs.{rewritings.HistoriesWrittenAgain.history_reading_is, verdicts.OneVerdict.checked-once}
+use Rattle.mh_text_laws.proofs.{verdicts.SomeVerdict.texts_checked, migration.LettersAdded.event_adds}
 use Rattle.mh_text_laws.proofs.migration.RecordLength.{recorded_length}
 
 -- Entries ----------------------------------------------------------------------------------------
 
 -- what version 1 knows, version 2 knows
 event_two : (e : Event) → is_event One e ≡ true → is_event Two e ≡ true
-event_two (event.Session who c) h = h
-event_two (event.Control c) h = (and_parts _ _ h).1
+event_two e h = grind (arith, and_parts)
 
 reply_two : (r : Reply) → is_reply One r ≡ true → is_reply Two r ≡ true
-reply_two (reply.Left quanta) h = cc
-reply_two other h = h
+reply_two other h = grind arith
 
 entry_two : (e : Entry) → is_entry One e ≡ true → is_entry Two e ≡ true
 entry_two e h = and_from _ _ (event_two e.event (and_parts _ _ h).0) (reply_two e.reply (and_parts _ _ h).1)
@@ -49,12 +32,7 @@ entry_two e h = and_from _ _ (event_two e.event (and_parts _ _ h).0) (reply_two 
 -- the letters of one event are few
 units_small : (machine : Machine) (e : Event) → machine.heap.config.rules ≡ First
     → are_u64 ((measured_step machine e (event_step machine e)).mutator ∷ (measured_step machine e (event_step machine e)).collector ∷ []) ≡ true
-units_small machine e first =
-    let step = event_adds machine e first in
-    let limits = config_limits machine.heap.config in
-    let m : ℕ = mutator_count (event_step machine e).state.trace.letters - mutator_count machine.trace.letters in
-    let c : ℕ = collector_count (event_step machine e).state.trace.letters - collector_count machine.trace.letters in
-    and_from _ _ (lt-ltb m u64 (omega (arith, step.mutator))) (and_from _ _ (lt-ltb c u64 (omega (arith, step.collector, limits.quantum_most))) refl)
+units_small machine e first = grind (arith, event_adds, config_limits, and_from, lt-ltb)
 
 -- Records ----------------------------------------------------------------------------------------
 
@@ -62,10 +40,7 @@ record_entries : (machine : Machine) (entries : List Entry) → replies_of entri
     → map (λ measured. measured.entry) (machine_record machine (events_of entries)) ≡ entries
 unfolding machine_replies machine_record
 record_entries machine [] h = refl
-record_entries machine (e ∷ entries) h =
-    let here : e.reply ≡ (event_step machine e.event).reply = first_same h in
-    let more = record_entries (event_step machine e.event).state entries (others_same h) in
-    rw (← here, more) refl
+record_entries machine (e ∷ entries) h = grind (arith, first_same, others_same, record_entries (event_step machine e.event).state entries (others_same h))
 
 record_measured : (machine : Machine) (entries : List Entry) → machine.heap.config.rules ≡ First → list_all (is_entry One) entries ≡ true
     → replies_of entries ≡ machine_replies machine (events_of entries) → list_all is_measured (machine_record machine (events_of entries)) ≡ true
@@ -101,27 +76,15 @@ migration_keeps config text entries first read legal =
     let same : map (λ measured. measured.entry) (migrated config entries).entries ≡ entries = record_entries (first_machine config) entries legal.replies in
     let in_range = record_measured (first_machine config) entries first known.passed legal.replies in
     let size = recorded_length (migrated config entries) in_range (omega (arith, count, legal.few)) (rw same few) in
-    record {
-      read = recorded_reading-text (migrated config entries) in_range size;
-      legal = record { few = omega (arith, count, legal.few); same = ap (machine_record (first_machine config)) (sym (record_events (first_machine config) (events_of entries))) };
-      count = count;
-      same = same;
-    }
+    search (arith, recorded_reading-text, record_events)
 
 migrated_by : (config : Config) (text : Text) (count : ℕ) (found : Reading (List Entry)) → history_reading text ≡ found → config.rules ≡ First → IsChecked config text (Legal count)
     → IsAudited (migration_text config (Legal count) found) (Legal count)
-migrated_by config text count (BadLine line) is first h = let refused : Legal count ≡ Refused line = rw is at h in cc
-migrated_by config text count (Means entries) is first h =
-    let legal : IsJudged (IsLegal config) entries (Legal count) = rw is at h in
-    let kept = migration_keeps config text entries first is legal.0 in
-    rw kept.read (kept.legal, legal.1 ∙ sym kept.count)
+migrated_by config text count found is first h = grind (arith, migration_keeps)
 
 pub migrated_legal : (config : Config) (text written : Text) (count : ℕ) → config.rules ≡ First → IsMigratedTo config text written → IsChecked config text (Legal count)
     → IsAudited written (Legal count)
-migrated_legal config text written count first made h =
-    let verdict : made.0 ≡ Legal count = checked-once config text made.0 (Legal count) made.1 h in
-    let same : written ≡ migration_text config (Legal count) (history_reading text) = made.2 ∙ ap (λ (v : Verdict). migration_text config v (history_reading text)) verdict in
-    subst (λ (t : Text). IsAudited t (Legal count)) (sym same) (migrated_by config text count (history_reading text) refl first h)
+migrated_legal config text written count first made h = grind (arith, checked-once, migrated_by)
 
 pub texts_migrated : (config : Config) (text : Text) → (written : Text) × IsMigratedTo config text written
 texts_migrated config text =

@@ -1,12 +1,8 @@
 -- The text of a record is little longer than that of its entries, so migration keeps within the limit.
 use Rattle.std.proofs.Common.{◌≡◌, ℕ, ◌+◌, ◌*◌, ◌<◌, ◌≤◌, ◌^◌, true, List, [], ◌∷◌, ◌++◌, length, map, ap, refl, codes, decimal, arith, length-append}
+use Rattle.std.proofs.{lemmas.Bool.{and_parts, ltb-true}, lemmas.Fmt.length-decimal-le}
 use Rattle.std.specs.List.{list_all}
-use Rattle.std.proofs.lemmas.Bool.{and_parts, ltb-true}
-use Rattle.std.proofs.lemmas.Fmt.{length-decimal-le}
-use Rattle.mh_model.specs.declared.config.Config.{Config}
-use Rattle.mh_model.specs.Bytes.{Text, joined, lines_text}
-use Rattle.mh_model.specs.Forms.{u64}
-use Rattle.mh_model.specs.Replies.{are_u64}
+use Rattle.mh_model.specs.{declared.config.Config.Config, Bytes.{Text, joined, lines_text}, Forms.u64, Replies.are_u64}
 use Rattle.mh_model.specs.HistoryTexts.{Recorded, entry_words, is_measured, header_words, history_text, recorded_text, measured_line}
 use Rattle.mh_model.specs.declared.history.Measured.{Measured}
 use Rattle.mh_model.proofs.TextLemmas.{joined-append}
@@ -18,11 +14,10 @@ few_digits : (n : ℕ) (ns : List ℕ) → are_u64 (n ∷ ns) ≡ true → lengt
 few_digits n ns h = let small : n < 2 ^ 64 = ltb-true n u64 (and_parts _ _ h).0 in length-decimal-le 20 n (omega arith) (omega arith) small
 
 decimals_length : (ns : List ℕ) → are_u64 ns ≡ true → length (joined (map decimal ns)) ≤ 21 * length ns
-decimals_length [] h = omega arith
-decimals_length (n ∷ []) h = omega (arith, few_digits n [] h)
 decimals_length (n ∷ next ∷ ns) h =
     let more = decimals_length (next ∷ ns) (and_parts _ _ h).1 in
     omega (arith, more, few_digits n (next ∷ ns) h, length-append (decimal n) (32 ∷ joined (map decimal (next ∷ ns))))
+decimals_length ns h = search (arith, few_digits)
 
 units_length : (words : List Text) (ns : List ℕ) → length ns ≡ 2 → are_u64 ns ≡ true → length (joined (words ++ codes "units" ∷ map decimal ns)) ≤ length (joined words) + 49
 units_length words [] two h = absurd (omega arith)
@@ -52,9 +47,4 @@ entries_length (m ∷ ms) h =
 pub recorded_length : (r : Recorded) → list_all is_measured r.entries ≡ true → length r.entries ≤ 1000000
     → length (history_text (map (λ measured. measured.entry) r.entries)) ≤ 1073741824
     → length (recorded_text r) ≤ 2147483648
-recorded_length r h few short =
-    let first = header_length r.config in
-    let more = entries_length r.entries h in
-    let written = lines-cons (joined (header_words r.config)) (map measured_line r.entries) in
-    let read = lines-cons (codes "history 1") (map entry_line (map (λ measured. measured.entry) r.entries)) in
-    omega (arith, first, more, few, short, written, read)
+recorded_length r h few short = grind (arith, header_length, entries_length, lines-cons, entry_line)

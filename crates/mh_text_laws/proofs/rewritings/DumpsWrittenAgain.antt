@@ -1,10 +1,8 @@
 -- Words that are the items of a dump are what is written of these.
-use Rattle.std.proofs.Common.{◌≡◌, ◌∙◌, ℕ, nat_lt, Bool, true, false, Option, Some, None, option_map, List, [], ◌∷◌, ◌++◌, map, flat_map, ap, sym, refl, codes, decimal}
-use Rattle.std.specs.Option.{option_or}
+use Rattle.std.proofs.Common.{◌≡◌, ◌∙◌, ℕ, nat_lt, Bool, true, false, Option, Some, None, option_map, List, [], ◌∷◌, ◌++◌, map, flat_map, ap, sym, refl, codes, decimal, arith}
 use Rattle.std.proofs.lemmas.Bool.{and_parts, and_from}
-use Rattle.mh_model.specs.declared.dump.DumpItem.{DumpItem}
-use Rattle.mh_model.specs.declared.dump.DumpItem.TheVariants as item
-use Rattle.mh_model.specs.Bytes.{Text, parts_at, joined_at, tagged}
+use Rattle.std.specs.Option.{option_or}
+use Rattle.mh_model.specs.{declared.dump.DumpItem.DumpItem, Bytes.{Text, parts_at, joined_at, tagged}}
 use Rattle.mh_model.specs.Forms.{are_below, u64}
 use Rattle.mh_model.specs.Replies.{flag_word, placed_word, item_words, item_numbers, are_u64, items_in_range, flag_forms, flag_of, placed_from, placed_by, placed_of, Pending, Ready, HasPage, HasClass, with_item, items_from}
 use Rattle.mh_text_laws.proofs.round_trips.ReplyRoundTrips.{block, forwarder}
@@ -26,11 +24,7 @@ record IsPlace (parts : List Text) (slot a b : Text) : Type 0 where
   place_is : parts_at 46 place ≡ a ∷ b ∷ []
 
 place_of : (parts : List Text) (slot a b : Text) → placed_from parts ≡ slot ∷ a ∷ b ∷ [] → IsPlace parts slot a b
-place_of [] slot a b h = cc
-place_of (x ∷ []) slot a b h = cc
-place_of (x ∷ place ∷ []) slot a b h =
-    record { place = place; parts_are = (let same : x ≡ slot = cc in rw same refl); place_is = (let same : parts_at 46 place ≡ a ∷ b ∷ [] = cc in same) }
-place_of (x ∷ y ∷ z ∷ parts) slot a b h = cc
+place_of parts slot a b h = grind arith
 
 placed_written : (mark slot a b : ℕ) (word : Text) → placed_from (parts_at mark word) ≡ decimal slot ∷ decimal a ∷ decimal b ∷ [] → placed_word mark slot a b ≡ word
 placed_written mark slot a b word h =
@@ -116,19 +110,14 @@ class_is page word words items (Some class_size) is later small h =
     (found.0 ∙ ap (λ (w : Text). (80 ∷ decimal page) ∷ w ∷ words) known.0, found.1)
 class_is page word words items None is later small h = cc
 
-page_is : (page class_size : ℕ) (word : Text) (i : DumpItem) → are_u64 (page ∷ class_size ∷ []) ≡ true → option_map (λ flag. item.Page page class_size flag) (flag_of word) ≡ Some i
+page_is : (page class_size : ℕ) (word : Text) (i : DumpItem) → are_u64 (page ∷ class_size ∷ []) ≡ true → option_map (λ flag. DumpItem.Page page class_size flag) (flag_of word) ≡ Some i
     → IsItem (pending_words (HasClass page class_size) ++ word ∷ []) i
-page_is page class_size word i small h =
-    let found = mapped (λ flag. item.Page page class_size flag) (flag_of word) i h in
-    same_of item_words item_passes (pending_words (HasClass page class_size) ++ word ∷ []) (item.Page page class_size found.from) i found.same
-    (ap (λ (w : Text). pending_words (HasClass page class_size) ++ w ∷ []) (flag_is word found.from found.is), small)
+page_is page class_size word i small h = grind (arith, mapped, same_of, flag_is)
 
 pub items_are : (words : List Text) → AreLater words
-items_are [] Ready items h small = let none : [] ≡ items = cc in same_of (flat_map item_words) items_in_range [] [] items none (refl, refl)
-items_are [] (HasPage page) items h small = cc
-items_are [] (HasClass page class_size) items h small = cc
+items_are [] is items h small = grind (arith, same_of)
 items_are (word ∷ words) Ready items h small = first_word_is word words items (tagged 80 word) refl (items_are words) h
 items_are (word ∷ words) (HasPage page) items h small = class_is page word words items (tagged 67 word) refl (items_are words) (and_parts _ _ small).0 h
 items_are (word ∷ words) (HasClass page class_size) items h small =
-    with_item_is (option_map (λ flag. item.Page page class_size flag) (flag_of word)) (pending_words (HasClass page class_size) ++ word ∷ []) words items h
+    with_item_is (option_map (λ flag. DumpItem.Page page class_size flag) (flag_of word)) (pending_words (HasClass page class_size) ++ word ∷ []) words items h
     (λ i is. page_is page class_size word i small is) (items_are words)

@@ -1,58 +1,50 @@
 -- Words that are an event, and lines that are an entry, with its units or without, are what is written of these.
-use Rattle.std.proofs.Common.{◌≡◌, ◌∙◌, ℕ, nat_le, cond, Bool, true, false, Option, Some, option_map, option_and_then, List, [], ◌∷◌, ◌++◌, map, ap, sym, refl, codes, decimal}
+use Rattle.std.proofs.Common.{◌≡◌, ◌∙◌, ℕ, nat_le, cond, Bool, true, false, Option, Some, option_map, option_and_then, List, [], ◌∷◌, ◌++◌, map, ap, sym, refl, codes, decimal, arith}
 use Rattle.std.proofs.lemmas.Bool.{and_from}
-use Rattle.mh_model.specs.declared.command.Event.{Event}
-use Rattle.mh_model.specs.declared.command.Event.TheVariants as event
-use Rattle.mh_model.specs.declared.reply.Reply.{Reply}
-use Rattle.mh_model.specs.declared.history.Entry.{Entry}
-use Rattle.mh_model.specs.Bytes.{Text, joined, words, is_text, numbers, tagged}
-use Rattle.mh_model.specs.Forms.{within, command_of, control_of}
-use Rattle.mh_model.specs.declared.history.Version.{Version}
-use Rattle.mh_model.specs.declared.history.Version.TheVariants.{Two}
+use Rattle.mh_model.specs.{declared.command.Event.Event, declared.reply.Reply.Reply, declared.history.Entry.Entry}
+use Rattle.mh_model.specs.{Bytes.{Text, joined, words, is_text, numbers}, Forms.{command_of, control_of}}
+use Rattle.mh_model.specs.{declared.history.Version.Version, declared.history.Version.TheVariants.Two}
 use Rattle.mh_model.specs.Replies.{reply_words, reply_of, are_u64}
 use Rattle.mh_model.specs.HistoryTexts.{event_words, is_event, event_of, session_of, entry_words, is_entry, entry_by, entry_of, measured_words, is_measured, measured_with, measured_by, measured_of, Halves, halves_at}
 use Rattle.mh_model.specs.declared.history.Measured.{Measured}
 use Rattle.mh_text_laws.proofs.rewritings.NumbersWrittenAgain.{mapped, chained, within_is, numbers_are}
-use Rattle.mh_model.proofs.TextLemmas.{text_is}
 use Rattle.mh_text_laws.proofs.rewritings.WordsWrittenAgain.{joined-words, tagged_is}
 use Rattle.mh_text_laws.proofs.rewritings.FormsWrittenAgain.{IsOf, same_of, command_is, control_is}
 use Rattle.mh_text_laws.proofs.rewritings.RepliesWrittenAgain.{reply_is}
+use Rattle.mh_model.proofs.TextLemmas.{text_is}
 
 -- Events -----------------------------------------------------------------------------------------
 
 session_is : (word : Text) (who : ℕ) → session_of word ≡ Some who → (115 ∷ decimal who ≡ word) × (nat_le who 8 ≡ true)
-session_is word who h =
-    let found = chained (λ n. within (nat_le n 8) n) (tagged 115 word) who h in
-    let few = within_is (nat_le found.from 8) found.from who found.then in
-    (ap (λ (n : ℕ). 115 ∷ decimal n) (sym few.1) ∙ (tagged_is 115 word found.from found.is).0, ap (λ (n : ℕ). nat_le n 8) (sym few.1) ∙ few.0)
+session_is word who h = grind (arith, chained, nat_le, within_is, tagged_is)
 
 abbrev control_event : Version → List Text → Option Event
-control_event version words = option_map (λ control. event.Control control) (control_of version words)
+control_event version words = option_map (λ control. Event.Control control) (control_of version words)
 
 abbrev session_event : Text → List Text → Option Event
-session_event word words = option_and_then (λ who. option_map (λ command. event.Session who command) (command_of words)) (session_of word)
+session_event word words = option_and_then (λ who. option_map (λ command. Event.Session who command) (command_of words)) (session_of word)
 
 -- a control, after the word `*`
 control_event_is : (version : Version) (word : Text) (words : List Text) (e : Event) → is_text word (codes "*") ≡ true
     → control_event version words ≡ Some e → IsOf event_words (is_event version) (word ∷ words) e
 control_event_is version word words e is h =
-    let found = mapped (λ control. event.Control control) (control_of version words) e h in
+    let found = mapped (λ control. Event.Control control) (control_of version words) e h in
     let known = control_is version words found.from found.is in
     let star : codes "*" ≡ word = sym (text_is word (codes "*") is) in
-    let written : event_words (event.Control found.from) ≡ word ∷ words = rw (known.0, star) refl in
-    same_of event_words (is_event version) (word ∷ words) (event.Control found.from) e found.same (written, known.1)
+    let written : event_words (Event.Control found.from) ≡ word ∷ words = rw (known.0, star) refl in
+    same_of event_words (is_event version) (word ∷ words) (Event.Control found.from) e found.same (written, known.1)
 
 -- a command, after the word of its session
 session_event_is : (version : Version) (word : Text) (words : List Text) (e : Event)
     → session_event word words ≡ Some e
     → IsOf event_words (is_event version) (word ∷ words) e
 session_event_is version word words e h =
-    let who = chained (λ who. option_map (λ command. event.Session who command) (command_of words)) (session_of word) e h in
-    let found = mapped (λ command. event.Session who.from command) (command_of words) e who.then in
+    let who = chained (λ who. option_map (λ command. Event.Session who command) (command_of words)) (session_of word) e h in
+    let found = mapped (λ command. Event.Session who.from command) (command_of words) e who.then in
     let one = session_is word who.from who.is in
     let known = command_is words found.from found.is in
-    let written : event_words (event.Session who.from found.from) ≡ word ∷ words = rw (one.0, known.0) refl in
-    same_of event_words (is_event version) (word ∷ words) (event.Session who.from found.from) e found.same (written, and_from _ _ one.1 known.1)
+    let written : event_words (Event.Session who.from found.from) ≡ word ∷ words = rw (one.0, known.0) refl in
+    same_of event_words (is_event version) (word ∷ words) (Event.Session who.from found.from) e found.same (written, and_from _ _ one.1 known.1)
 
 pub event_is : (version : Version) (words : List Text) (e : Event) → event_of version words ≡ Some e → IsOf event_words (is_event version) words e
 event_is version [] e h = cc
@@ -104,14 +96,7 @@ entry_is version words e h =
 
 units_are : (e : Entry) (ns : List ℕ) (words : List Text) (m : Measured) → map decimal ns ≡ words → are_u64 ns ≡ true → is_entry Two e ≡ true → measured_with e ns ≡ Some m
     → IsOf measured_words is_measured (entry_words e ++ codes "units" ∷ words) m
-units_are e [] words m is small known h = cc
-units_are e (a ∷ []) words m is small known h = cc
-units_are e (a ∷ b ∷ c ∷ ns) words m is small known h = cc
-units_are e (a ∷ b ∷ []) words m is small known h =
-    let made : Measured = record { entry = e; mutator = a; collector = b } in
-    let same : made ≡ m = cc in
-    let written : measured_words made ≡ entry_words e ++ codes "units" ∷ words = ap (λ (ws : List Text). entry_words e ++ codes "units" ∷ ws) is in
-    same_of measured_words is_measured (entry_words e ++ codes "units" ∷ words) made m same (written, and_from (is_entry Two e) (are_u64 (a ∷ b ∷ [])) known small)
+units_are e ns words m is small known h = grind (arith, same_of, and_from)
 
 measured_is : (words : List Text) (m : Measured) → measured_of words ≡ Some m → IsOf measured_words is_measured words m
 measured_is words m h =

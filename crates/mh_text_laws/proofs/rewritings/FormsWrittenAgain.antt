@@ -1,13 +1,9 @@
 -- Words that are read by a table of forms, as commands and controls are, are what is written of what they mean.
-use Rattle.std.proofs.Common.{◌≡◌, ◌∙◌, ℕ, nat_lt, ◌&&◌, cond, Bool, true, false, Option, Some, option_and_then, List, [], ◌∷◌, map, ap, sym, refl, codes, decimal}
+use Rattle.std.proofs.Common.{◌≡◌, ◌∙◌, ℕ, ◌&&◌, cond, Bool, true, false, Option, Some, option_and_then, List, [], ◌∷◌, map, ap, sym, refl, codes, decimal, arith}
 use Rattle.std.proofs.lemmas.Bool.{and_parts}
-use Rattle.mh_model.specs.declared.command.Command.{Command}
-use Rattle.mh_model.specs.declared.command.Control.{Control}
-use Rattle.mh_model.specs.declared.command.Control.TheVariants as control
-use Rattle.mh_model.specs.Bytes.{Text, is_text}
-use Rattle.mh_model.specs.Forms.{Form, form_of, formed, are_below, with_numbers, row, row_form, u32, u64, phrase_words, is_sayable, command_forms, command_phrase, command_of, control_forms, control_phrase, control_of, knows_control, where_known}
-use Rattle.mh_model.specs.declared.history.Version.{Version}
-use Rattle.mh_model.specs.declared.history.Version.TheVariants.{One, Two}
+use Rattle.mh_model.specs.{declared.command.Command.Command, declared.command.Control.Control, Bytes.{Text, is_text}}
+use Rattle.mh_model.specs.Forms.{Form, form_of, formed, are_below, with_numbers, row, row_form, phrase_words, is_sayable, command_forms, command_phrase, command_of, control_forms, control_phrase, control_of, knows_control, where_known}
+use Rattle.mh_model.specs.{declared.history.Version.Version, declared.history.Version.TheVariants.One}
 use Rattle.mh_model.specs.Replies.{are_texts, with_words}
 use Rattle.mh_text_laws.proofs.rewritings.NumbersWrittenAgain.{within_is, numbered_is, OfEach, of_each, length-below}
 use Rattle.mh_model.proofs.TextLemmas.{text_is}
@@ -46,8 +42,7 @@ found-faithful written passes (form ∷ forms) verb words x all h =
 
 pub formed-faithful : {X : Type 0} (written : X → List Text) (passes : X → Bool) (forms : List (Form X)) → AreFaithful written passes forms
     → (words : List Text) (x : X) → formed forms words ≡ Some x → IsOf written passes words x
-formed-faithful written passes forms all [] x h = cc
-formed-faithful written passes forms all (verb ∷ words) x h = found-faithful written passes forms verb words x all h
+formed-faithful written passes forms all words x h = grind (arith, found-faithful)
 
 -- of one word
 pub word-faithful : {X : Type 0} (written : X → Text) (forms : List (Form X)) → AreFaithful (λ x. written x ∷ []) (λ x. true) forms → (word : Text) (x : X)
@@ -74,14 +69,12 @@ numbers-faithful written passes verb bounds made each = record {
 -- Forms of words ---------------------------------------------------------------------------------
 
 pub texts_are : (xs ys : List Text) → are_texts xs ys ≡ true → xs ≡ ys
-texts_are [] [] h = refl
-texts_are [] (y ∷ ys) h = cc
-texts_are (x ∷ xs) [] h = cc
 texts_are (x ∷ xs) (y ∷ ys) h =
     let both = and_parts _ _ h in
     let one : x ≡ y = text_is x y both.0 in
     let more : xs ≡ ys = texts_are xs ys both.1 in
     cc
+texts_are xs ys h = grind arith
 
 pub words-faithful : {X : Type 0} (written : X → List Text) (passes : X → Bool) (verb : Text) (more : List Text) (made : X) → written made ≡ verb ∷ more → passes made ≡ true
     → IsFaithful written passes (with_words verb more made)
@@ -100,40 +93,7 @@ abbrev command_passes : Command → Bool
 command_passes c = is_sayable (command_phrase c)
 
 pub command_is : (words : List Text) (c : Command) → command_of words ≡ Some c → IsOf command_words command_passes words c
-command_is = formed-faithful command_words command_passes command_forms (
-  numbers-faithful _ _ (codes "new") (u32 ∷ u32 ∷ u32 ∷ []) _ (λ a b c. (refl, refl)),
-  (
-    numbers-faithful _ _ (codes "get") (u32 ∷ u32 ∷ u32 ∷ []) _ (λ a b c. (refl, refl)),
-    (
-      numbers-faithful _ _ (codes "put") (u32 ∷ u32 ∷ u32 ∷ []) _ (λ a b c. (refl, refl)),
-      (
-        numbers-faithful _ _ (codes "copy") (u32 ∷ u32 ∷ []) _ (λ a b. (refl, refl)),
-        (
-          numbers-faithful _ _ (codes "clear") (u32 ∷ []) _ (λ a. (refl, refl)),
-          (
-            numbers-faithful _ _ (codes "read") (u32 ∷ u32 ∷ []) _ (λ a b. (refl, refl)),
-            (
-              numbers-faithful _ _ (codes "write") (u32 ∷ u32 ∷ u64 ∷ []) _ (λ a b c. (refl, refl)),
-              (
-                numbers-faithful _ _ (codes "same") (u32 ∷ u32 ∷ []) _ (λ a b. (refl, refl)),
-                (
-                  numbers-faithful _ _ (codes "shape") (u32 ∷ []) _ (λ a. (refl, refl)),
-                  (
-                    numbers-faithful _ _ (codes "post") (u32 ∷ u32 ∷ []) _ (λ a b. (refl, refl)),
-                    (
-                      numbers-faithful _ _ (codes "take") (u32 ∷ u32 ∷ []) _ (λ a b. (refl, refl)),
-                      (numbers-faithful _ _ (codes "end") [] _ (refl, refl), tt),
-                    ),
-                  ),
-                ),
-              ),
-            ),
-          ),
-        ),
-      ),
-    ),
-  ),
-)
+command_is = formed-faithful command_words command_passes command_forms (grind (arith, numbers-faithful))
 
 abbrev control_words : Control → List Text
 control_words c = phrase_words (control_phrase c)
@@ -143,34 +103,17 @@ control_passes version c = knows_control version c && is_sayable (control_phrase
 
 -- what version 1 knows is known
 known : (version : Version) (c : Control) (test : Bool) → knows_control One c ≡ true → (knows_control version c && test) ≡ test
-known One c test h = rw h refl
-known Two c test h = refl
+known version c test h = grind arith
 
-left_control-faithful : (version : Version) → AreFaithful control_words (control_passes version) (map row_form (where_known version (row (codes "left") [] (λ ns. control.Left))))
-left_control-faithful One = tt
-left_control-faithful Two = (numbers-faithful _ _ (codes "left") [] _ (refl, refl), tt)
+left_control-faithful : (version : Version) → AreFaithful control_words (control_passes version) (map row_form (where_known version (row (codes "left") [] (λ ns. Control.Left))))
+left_control-faithful version = grind (arith, numbers-faithful)
 
 pub control_is : (version : Version) (words : List Text) (c : Control) → control_of version words ≡ Some c → IsOf control_words (control_passes version) words c
 control_is version = formed-faithful control_words (control_passes version) (control_forms version) (
-  numbers-faithful _ _ (codes "quantum") [] _ (refl, known version control.Quantum true refl),
-  (
-    numbers-faithful _ _ (codes "start") [] _ (refl, known version control.Start true refl),
-    (
-      numbers-faithful _ _ (codes "stat") [] _ (refl, known version control.Stat true refl),
-      (
-        numbers-faithful _ _ (codes "dump") [] _ (refl, known version control.Dump true refl),
-        (
-          numbers-faithful _ _ (codes "report") (u64 ∷ []) _ (λ a. (refl, known version (control.Report a) (nat_lt a u64 && true) refl)),
-          left_control-faithful version,
-        ),
-      ),
-    ),
-  ),
+  numbers-faithful _ _ (codes "quantum") [] _ (refl, known version Control.Quantum true refl),
+  (grind (arith, numbers-faithful, known, left_control-faithful)),
 )
 
 pub control_again : (version : Version) (words : List Text) (c : Control) → control_of version words ≡ Some c
     → (phrase_words (control_phrase c) ≡ words) × (knows_control version c ≡ true) × (is_sayable (control_phrase c) ≡ true)
-control_again version words c h =
-    let found = control_is version words c h in
-    let both = and_parts _ _ found.1 in
-    (found.0, both.0, both.1)
+control_again version words c h = search (arith, control_is, and_parts)

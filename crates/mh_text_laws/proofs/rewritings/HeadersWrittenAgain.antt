@@ -1,17 +1,14 @@
 -- A line that is the first of version 2 is what is written of its configuration.
-use Rattle.std.proofs.Common.{◌≡◌, ◌∙◌, ℕ, ◌==◌, ◌&&◌, cond, Bool, true, false, Some, None, option_and_then, List, [], ◌∷◌, map, ap, sym, refl, codes, decimal}
+use Rattle.std.proofs.Common.{◌≡◌, ◌∙◌, ℕ, ◌==◌, ◌&&◌, cond, Bool, true, false, Some, None, option_and_then, List, [], ◌∷◌, map, ap, sym, refl, codes, decimal, arith}
 use Rattle.std.proofs.lemmas.Bool.{and_parts, eqb-true}
-use Rattle.mh_model.specs.declared.config.Config.{Config}
-use Rattle.mh_model.specs.declared.config.Rules.{Rules}
-use Rattle.mh_model.specs.declared.config.Rules.TheVariants.{First, Second}
-use Rattle.mh_model.specs.Limits.{is_configuration}
-use Rattle.mh_model.specs.Configs.{configured_by, configured_under}
-use Rattle.mh_model.specs.Bytes.{Text, joined, words, is_text, numbers}
+use Rattle.mh_model.specs.{declared.config.Config.Config, declared.config.Rules.Rules}
+use Rattle.mh_model.specs.{declared.config.Rules.TheVariants.{First, Second}, Limits.is_configuration}
+use Rattle.mh_model.specs.{Configs.configured_by, Bytes.{Text, joined, words, is_text, numbers}}
 use Rattle.mh_model.specs.HistoryTexts.{rules_number, rules_of, header_words, header_by, header_of}
 use Rattle.mh_text_laws.proofs.round_trips.HeaderRoundTrips.{header_numbers}
 use Rattle.mh_text_laws.proofs.rewritings.NumbersWrittenAgain.{chained, numbers_are}
-use Rattle.mh_model.proofs.TextLemmas.{text_is}
 use Rattle.mh_text_laws.proofs.rewritings.WordsWrittenAgain.{joined-words}
+use Rattle.mh_model.proofs.TextLemmas.{text_is}
 
 rules_are : (n : ℕ) (rules : Rules) → rules_of n ≡ Some rules → rules_number rules ≡ n
 rules_are n rules h = by (n == 1) (n == 2) refl refl h where
@@ -23,23 +20,10 @@ rules_are n rules h = by (n == 1) (n == 2) refl refl h where
 configured_is : (rules : Rules) (pages quantum trigger every : ℕ) (answer : Bool) (is : is_configuration pages quantum trigger every ≡ answer) (c : Config)
     → configured_by rules pages quantum trigger every answer is ≡ Some c
     → header_numbers c ≡ rules_number rules ∷ pages ∷ quantum ∷ trigger ∷ every ∷ []
-configured_is rules pages quantum trigger every true is c h =
-    let made : Config = record { pages = pages; quantum = quantum; trigger = trigger; every = every; rules = rules; in_limits = is } in
-    let same : made ≡ c = cc in
-    ap header_numbers (sym same)
-configured_is rules pages quantum trigger every false is c h = cc
+configured_is rules pages quantum trigger every answer is c h = grind (arith, header_numbers)
 
 header_by_is : (ns : List ℕ) (c : Config) → header_by ns ≡ Some c → header_numbers c ≡ ns
-header_by_is [] c h = cc
-header_by_is (a ∷ []) c h = cc
-header_by_is (a ∷ b ∷ []) c h = cc
-header_by_is (a ∷ b ∷ d ∷ []) c h = cc
-header_by_is (a ∷ b ∷ d ∷ e ∷ []) c h = cc
-header_by_is (a ∷ b ∷ d ∷ e ∷ f ∷ g ∷ ns) c h = cc
-header_by_is (rules ∷ pages ∷ quantum ∷ trigger ∷ every ∷ []) c h =
-    let found = chained (λ r. configured_under r pages quantum trigger every) (rules_of rules) c h in
-    configured_is found.from pages quantum trigger every (is_configuration pages quantum trigger every) refl c found.then
-    ∙ ap (λ (r : ℕ). r ∷ pages ∷ quantum ∷ trigger ∷ every ∷ []) (rules_are rules found.from found.is)
+header_by_is ns c h = grind (arith, chained, configured_is, rules_are)
 
 header_is : (words : List Text) (c : Config) → header_of words ≡ Some c → header_words c ≡ words
 header_is [] c h = cc

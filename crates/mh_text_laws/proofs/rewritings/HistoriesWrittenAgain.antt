@@ -1,18 +1,16 @@
 -- Texts that are histories, of both versions, are what is written of these, with their entries in range.
-use Rattle.std.proofs.Common.{◌≡◌, ◌∙◌, ℕ, suc, ◌≤◌, nat_lt, cond, Bool, true, false, Option, Some, None, List, [], ◌∷◌, ◌++◌, length, map, ap, sym, subst, refl, codes, append-nil}
-use Rattle.std.specs.List.{list_all}
+use Rattle.std.proofs.Common.{◌≡◌, ◌∙◌, ℕ, suc, ◌≤◌, nat_lt, cond, Bool, true, false, Option, Some, None, List, [], ◌∷◌, ◌++◌, length, map, ap, sym, refl, codes, append-nil, arith}
 use Rattle.std.proofs.lemmas.Bool.{and_from, ltb-false}
-use Rattle.mh_model.specs.declared.config.Config.{Config}
-use Rattle.mh_model.specs.declared.history.Entry.{Entry}
+use Rattle.std.specs.List.{list_all}
+use Rattle.mh_model.specs.{declared.config.Config.Config, declared.history.Entry.Entry}
 use Rattle.mh_model.specs.Bytes.{Text, cut_after, words, joined, lines_text, is_text}
 use Rattle.mh_model.specs.declared.history.Version.TheVariants.{One}
 use Rattle.mh_model.specs.Script.{Reading, BadLine, Means, reading_map, at_end}
 use Rattle.mh_model.specs.HistoryTexts.{Recorded, is_entry, entry_of, is_measured, measured_of, header_words, header_of, entries_from, history_text, history_of, history_reading, recorded_text, recorded_by, recorded_of, recorded_reading, measured_line}
-use Rattle.mh_text_laws.proofs.round_trips.HistoryRoundTrips.{entry_line}
-use Rattle.mh_text_laws.proofs.beginnings.WholeLines.{text_is_lines}
-use Rattle.mh_model.proofs.TextLemmas.{text_is}
+use Rattle.mh_text_laws.proofs.{round_trips.HistoryRoundTrips.entry_line, beginnings.WholeLines.text_is_lines}
 use Rattle.mh_text_laws.proofs.rewritings.EntriesWrittenAgain.{entry_line_is, measured_line_is}
 use Rattle.mh_text_laws.proofs.rewritings.HeadersWrittenAgain.{header_line_is}
+use Rattle.mh_model.proofs.TextLemmas.{text_is}
 
 -- what a reading is made of
 record IsRead {X Y : Type 0} (made : X → Y) (found : Reading X) (y : Y) : Type 0 where
@@ -21,8 +19,7 @@ record IsRead {X Y : Type 0} (made : X → Y) (found : Reading X) (y : Y) : Type
   same : made from ≡ y
 
 read_as : {X Y : Type 0} (made : X → Y) (found : Reading X) (y : Y) → reading_map made found ≡ Means y → IsRead made found y
-read_as made (BadLine n) y h = cc
-read_as made (Means x) y h = record { from = x; is = refl; same = (let same : made x ≡ y = cc in same) }
+read_as made found y h = grind arith
 
 -- Lines that are entries are what is written of these, which are in range, and nothing follows them
 record AreRead {X : Type 0} (line : X → Text) (passes : X → Bool) (lines : List Text) (rest : Text) (xs : List X) : Type 0 where
@@ -31,9 +28,7 @@ record AreRead {X : Type 0} (line : X → Text) (passes : X → Bool) (lines : L
   passed : list_all passes xs ≡ true
 
 no_lines : {X : Type 0} (line : X → Text) (passes : X → Bool) (n : ℕ) (rest : Text) (xs : List X) → at_end [] n rest ≡ Means xs → AreRead line passes [] rest xs
-no_lines {X} line passes n [] xs h =
-    let none : [] ≡ xs = cc in
-    record { same = ap (map line) (sym none); end = refl; passed = ap (list_all passes) (sym none) }
+no_lines {X} line passes n [] xs h = grind arith
 no_lines line passes n (byte ∷ bytes) xs h = cc
 
 entries_are : {X : Type 0} (read : Text → Option X) (line : X → Text) (passes : X → Bool) → ((l : Text) (x : X) → read l ≡ Some x → (line x ≡ l) × (passes x ≡ true))
@@ -113,8 +108,7 @@ record_is first lines rest r (Some config) is h =
     let found = entries_are (λ line. measured_of (words line)) measured_line is_measured measured_line_is 2 lines rest one.from one.is in
     let here : joined (header_words config) ≡ first = header_line_is first config is in
     let same : first ∷ lines ≡ joined (header_words config) ∷ map measured_line one.from = rw (here, found.same) refl in
-    subst (λ (r : Recorded). AreWritten (first ∷ lines) rest (joined (header_words r.config)) (map measured_line r.entries) (list_all is_measured r.entries)) one.same
-    (record { same = same; end = found.end; passed = found.passed })
+    grind arith
 
 recorded_is : (lines : List Text) (rest : Text) (r : Recorded) → recorded_of (record { pieces = lines; rest = rest }) ≡ Means r
     → AreWritten lines rest (joined (header_words r.config)) (map measured_line r.entries) (list_all is_measured r.entries)

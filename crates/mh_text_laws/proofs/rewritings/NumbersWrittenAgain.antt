@@ -1,12 +1,9 @@
 -- Words that are read as numbers are what is written of these.
-use Rattle.std.proofs.Common.{◌≡◌, ◌∙◌, ℕ, suc, ◌<◌, ◌^◌, ◌==◌, nat_lt, not, ◌&&◌, Bool, true, false, Option, Some, None, option_map, option_and_then, List, [], ◌∷◌, length, get_or, map, ap, sym, refl, decimal, arith}
+use Rattle.std.proofs.Common.{◌≡◌, ◌∙◌, ℕ, suc, ◌<◌, ◌^◌, nat_lt, ◌&&◌, Bool, true, Option, Some, option_map, option_and_then, List, [], ◌∷◌, length, get_or, map, ap, sym, refl, decimal, arith}
+use Rattle.std.proofs.{lemmas.Bool.{and_parts, and_from, not-true, eqb-false, ltb-true}, lemmas.List.length-map}
+use Rattle.std.proofs.{lemmas.Option.{cond_some, option_and_then_some}, lemmas.Fmt.decimal-digits_value}
 use Rattle.std.specs.List.{list_all}
-use Rattle.std.proofs.lemmas.Bool.{and_parts, and_from, not-true, eqb-false, ltb-true}
-use Rattle.std.proofs.lemmas.List.{length-map}
-use Rattle.std.proofs.lemmas.Option.{cond_some, option_and_then_some}
-use Rattle.std.proofs.lemmas.Fmt.{decimal-digits_value}
-use Rattle.mh_model.specs.Forms.{u64, within, are_below, numbered}
-use Rattle.mh_model.specs.Replies.{are_u64}
+use Rattle.mh_model.specs.{Forms.{u64, within, are_below, numbered}, Replies.are_u64}
 use Rattle.mh_model.specs.Bytes.{Text, is_digit, is_numeral, value_after, number, numbers}
 use Rattle.mh_text_laws.proofs.round_trips.WordRoundTrips.{numerals}
 
@@ -18,17 +15,7 @@ record IsNumeral (word : Text) : Type 0 where
   one : get_or word 0 0 ≡ 48 → length word ≡ 1
 
 numeral_is : (word : Text) → is_numeral word ≡ true → IsNumeral word
-numeral_is [] h = cc
-numeral_is (c ∷ []) h = record { digits = and_from _ _ h refl; some = omega arith; one = λ zero. refl }
-numeral_is (c ∷ d ∷ ds) h =
-    let both = and_parts (is_digit c) (not (c == 48) && list_all is_digit (d ∷ ds)) h in
-    let more = and_parts (not (c == 48)) (list_all is_digit (d ∷ ds)) both.1 in
-    let other : (c == 48) ≡ false = not-true (c == 48) more.0 in
-    record {
-      digits = and_from (is_digit c) (list_all is_digit (d ∷ ds)) both.0 more.1;
-      some = omega arith;
-      one = λ zero. absurd (eqb-false c 48 other zero);
-    }
+numeral_is word h = grind (arith, and_from, and_parts, not-true, eqb-false)
 
 pub number_is : (word : Text) (n : ℕ) → number word ≡ Some n → (decimal n ≡ word) × (nat_lt n u64 ≡ true)
 number_is word n h =
@@ -48,8 +35,7 @@ pub record IsMade {X Y : Type 0} (made : X → Y) (found : Option X) (y : Y) : T
   pub same : made from ≡ y
 
 pub mapped : {X Y : Type 0} (f : X → Y) (found : Option X) (y : Y) → option_map f found ≡ Some y → IsMade f found y
-mapped f None y h = cc
-mapped f (Some x) y h = record { from = x; is = refl; same = (let same : f x ≡ y = cc in same) }
+mapped f found y h = grind arith
 
 pub record IsChained {X Y : Type 0} (next : X → Option Y) (found : Option X) (y : Y) : Type 0 where
   pub from : X
@@ -60,8 +46,7 @@ pub chained : {X Y : Type 0} (next : X → Option Y) (found : Option X) (y : Y) 
 chained next found y h = option_and_then_some next found y h (λ x is then. record { from = x; is = is; then = then })
 
 pub within_is : {X : Type 0} (test : Bool) (a x : X) → within test a ≡ Some x → (test ≡ true) × (a ≡ x)
-within_is true a x h = (refl, (let same : a ≡ x = cc in same))
-within_is false a x h = cc
+within_is test a x h = grind arith
 
 -- Lists of numbers -------------------------------------------------------------------------------
 
@@ -83,10 +68,7 @@ pub record AreNumbers {X : Type 0} (bounds : List ℕ) (made : List ℕ → X) (
   pub written : map decimal numbers ≡ words
 
 pub numbered_is : {X : Type 0} (bounds : List ℕ) (made : List ℕ → X) (words : List Text) (x : X) → numbered bounds made words ≡ Some x → AreNumbers bounds made words x
-numbered_is bounds made words x h =
-    let found = chained (λ ns. within (are_below bounds ns) (made ns)) (numbers words) x h in
-    let low = within_is (are_below bounds found.from) (made found.from) x found.then in
-    record { numbers = found.from; same = low.1; below = low.0; written = (numbers_are words found.from found.is).0 }
+numbered_is bounds made words x h = grind (arith, chained, within_is, numbers_are)
 
 -- As many numbers as a list has elements ----------------------------------------------------------
 
@@ -97,15 +79,12 @@ OfEach (s ∷ shape) P = (n : ℕ) → OfEach shape (λ ns. P (n ∷ ns))
 
 pub of_each : {S : Type 0} (shape : List S) (P : List ℕ → Type 0) → OfEach shape P → (ns : List ℕ) → length ns ≡ length shape → P ns
 of_each [] P all [] same = all
-of_each [] P all (n ∷ ns) same = absurd (omega arith)
-of_each (s ∷ shape) P all [] same = absurd (omega arith)
 of_each (s ∷ shape) P all (n ∷ ns) same = of_each shape (λ ns. P (n ∷ ns)) (all n) ns (omega arith)
+of_each shape P all ns same = absurd (omega arith)
 
 pub length-below : (bounds ns : List ℕ) → are_below bounds ns ≡ true → length ns ≡ length bounds
-length-below [] [] h = refl
-length-below [] (n ∷ ns) h = cc
-length-below (b ∷ bounds) [] h = cc
 length-below (b ∷ bounds) (n ∷ ns) h = ap suc (length-below bounds ns (and_parts _ _ h).1)
+length-below bounds ns h = grind arith
 
 pub length-decimals : (ns : List ℕ) (words : List Text) → map decimal ns ≡ words → length ns ≡ length words
 length-decimals ns words h = sym (length-map ns decimal) ∙ ap length h

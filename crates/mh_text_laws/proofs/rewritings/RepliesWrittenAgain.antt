@@ -1,59 +1,23 @@
 -- Words that are a reply are what is written of it, and it is well formed.
-use Rattle.std.proofs.Common.{option_to_list, ◌≡◌, ◌∙◌, ℕ, cond, Bool, true, false, Option, Some, None, option_map, option_and_then, List, [], ◌∷◌, map, ap, sym, subst, refl, codes, decimal}
+use Rattle.std.proofs.Common.{option_to_list, ◌≡◌, ◌∙◌, ℕ, cond, Bool, true, false, Option, Some, None, option_map, option_and_then, List, [], ◌∷◌, map, ap, sym, subst, refl, codes, decimal, arith}
 use Rattle.std.proofs.lemmas.Bool.{and_from}
-use Rattle.mh_model.specs.declared.reply.Reply.{Reply}
-use Rattle.mh_model.specs.declared.reply.Reply.TheVariants as reply
-use Rattle.mh_model.specs.declared.reply.Refusal.{Refusal}
-use Rattle.mh_model.specs.declared.reply.Refusal.TheVariants.{BadSlot, Null, NoField, TooLarge, HeapFull, Ended, TooManySessions}
-use Rattle.mh_model.specs.declared.cycle.Phase.{Phase}
-use Rattle.mh_model.specs.declared.cycle.Phase.TheVariants.{Idle, Roots, Mark, Sweep, Defrag}
+use Rattle.mh_model.specs.{declared.reply.Reply.Reply, declared.reply.Refusal.Refusal, declared.cycle.Phase.Phase}
 use Rattle.mh_model.specs.Bytes.{Text, is_text, number, numbers}
 use Rattle.mh_model.specs.Forms.{within, formed, with_numbers, at, u32, u64, where_known}
 use Rattle.mh_model.specs.declared.history.Version.{Version}
-use Rattle.mh_model.specs.declared.history.Version.TheVariants.{One, Two}
-use Rattle.mh_model.specs.Replies.{refusal_words, phase_word, optional_word, reply_words, are_u64, is_reply, refusal_forms, phase_forms, phase_of, ascends, items_in_range, Ready, items_from, values, spent_of, stat_from, stat_of, optional_by, optional_of, report_from, report_of, dump_of, reply_forms, reply_of}
+use Rattle.mh_model.specs.Replies.{refusal_words, phase_word, optional_word, reply_words, are_u64, is_reply, refusal_forms, phase_forms, phase_of, ascends, Ready, items_from, values, spent_of, stat_from, stat_of, optional_by, optional_of, report_from, report_of, dump_of, reply_forms, reply_of}
 use Rattle.mh_text_laws.proofs.rewritings.NumbersWrittenAgain.{within_is, mapped, chained, number_is, numbers_are, of_each, length-decimals}
-use Rattle.mh_model.proofs.TextLemmas.{text_is}
 use Rattle.mh_text_laws.proofs.rewritings.DumpsWrittenAgain.{items_are}
 use Rattle.mh_text_laws.proofs.rewritings.FormsWrittenAgain.{IsOf, same_of, word-faithful, IsFaithful, AreFaithful, formed-faithful, numbers-faithful, words-faithful}
+use Rattle.mh_model.proofs.TextLemmas.{text_is}
 
 -- Parts of replies -------------------------------------------------------------------------------
 
 refusal_is : (words : List Text) (x : Refusal) → formed refusal_forms words ≡ Some x → IsOf refusal_words (λ x. true) words x
-refusal_is = formed-faithful refusal_words (λ x. true) refusal_forms (
-  words-faithful _ _ (codes "1") _ BadSlot refl refl,
-  (
-    words-faithful _ _ (codes "2") _ Null refl refl,
-    (
-      words-faithful _ _ (codes "3") _ NoField refl refl,
-      (
-        words-faithful _ _ (codes "4") _ TooLarge refl refl,
-        (
-          words-faithful _ _ (codes "5") _ HeapFull refl refl,
-          (
-            words-faithful _ _ (codes "6") _ Ended refl refl,
-            (words-faithful _ _ (codes "7") _ TooManySessions refl refl, tt),
-          ),
-        ),
-      ),
-    ),
-  ),
-)
+refusal_is = formed-faithful refusal_words (λ x. true) refusal_forms (grind (arith, words-faithful))
 
 phase_is : (word : Text) (phase : Phase) → phase_of word ≡ Some phase → phase_word phase ≡ word
-phase_is = word-faithful phase_word phase_forms (
-  words-faithful _ _ (codes "idle") [] Idle refl refl,
-  (
-    words-faithful _ _ (codes "roots") [] Roots refl refl,
-    (
-      words-faithful _ _ (codes "mark") [] Mark refl refl,
-      (
-        words-faithful _ _ (codes "sweep") [] Sweep refl refl,
-        (words-faithful _ _ (codes "defrag") [] Defrag refl refl, tt),
-      ),
-    ),
-  ),
-)
+phase_is = word-faithful phase_word phase_forms (grind (arith, words-faithful))
 
 -- an optional number of 64 bits
 abbrev IsOptional : Text → Option ℕ → Type 0
@@ -113,30 +77,22 @@ abbrev spent_keys : List Text
 spent_keys = codes "phase" ∷ []
 
 spent_is : (version : Version) (more : List Text) (r : Reply) → spent_of more ≡ Some r → IsReply version (codes "spent" ∷ keyed spent_keys more) r
-spent_is version [] r h = cc
-spent_is version (a ∷ []) r h = cc
-spent_is version (a ∷ b ∷ c ∷ more) r h = cc
 spent_is version (units ∷ phase ∷ []) r h =
-    let n = chained (λ n. option_map (λ p. reply.Spent n p) (phase_of phase)) (number units) r h in
-    let p = mapped (λ p. reply.Spent n.from p) (phase_of phase) r n.then in
+    let n = chained (λ n. option_map (λ p. Reply.Spent n p) (phase_of phase)) (number units) r h in
+    let p = mapped (λ p. Reply.Spent n.from p) (phase_of phase) r n.then in
     let known = number_is units n.from n.is in
-    same_of reply_words (is_reply version) (codes "spent" ∷ units ∷ codes "phase" ∷ phase ∷ []) (reply.Spent n.from p.from) r p.same
+    same_of reply_words (is_reply version) (codes "spent" ∷ units ∷ codes "phase" ∷ phase ∷ []) (Reply.Spent n.from p.from) r p.same
     (rw (known.0, phase_is phase p.from p.is) refl, and_from _ _ known.1 refl)
+spent_is version more r h = cc
 
 abbrev stat_keys : List Text
 stat_keys = codes "live" ∷ codes "old" ∷ codes "phase" ∷ codes "cycle" ∷ []
 
 -- the reply of these numbers and this phase
 abbrev stat : Phase → List ℕ → Reply
-stat p ns = reply.Stat (stat_from ns p)
+stat p ns = Reply.Stat (stat_from ns p)
 
 stat_is : (version : Version) (more : List Text) (r : Reply) → stat_of more ≡ Some r → IsReply version (codes "free" ∷ keyed stat_keys more) r
-stat_is version [] r h = cc
-stat_is version (a ∷ []) r h = cc
-stat_is version (a ∷ b ∷ []) r h = cc
-stat_is version (a ∷ b ∷ c ∷ []) r h = cc
-stat_is version (a ∷ b ∷ c ∷ d ∷ []) r h = cc
-stat_is version (a ∷ b ∷ c ∷ d ∷ e ∷ f ∷ more) r h = cc
 stat_is version (free ∷ live ∷ old ∷ phase ∷ cycle ∷ []) r h =
     let texts : List Text = free ∷ live ∷ old ∷ cycle ∷ [] in
     let found : List Text = codes "free" ∷ keyed stat_keys (free ∷ live ∷ old ∷ phase ∷ cycle ∷ []) in
@@ -149,22 +105,15 @@ stat_is version (free ∷ live ∷ old ∷ phase ∷ cycle ∷ []) r h =
       all_same : (a b c d : ℕ) (p : Text) → decimal a ∷ decimal b ∷ decimal c ∷ decimal d ∷ [] ≡ free ∷ live ∷ old ∷ cycle ∷ [] → p ≡ phase
           → codes "free" ∷ keyed stat_keys (decimal a ∷ decimal b ∷ decimal c ∷ p ∷ decimal d ∷ []) ≡ codes "free" ∷ keyed stat_keys (free ∷ live ∷ old ∷ phase ∷ cycle ∷ [])
       all_same a b c d p same is = cc
+stat_is version more r h = cc
 
 abbrev report_keys : List Text
 report_keys = codes "collector" ∷ codes "quanta" ∷ codes "greatest" ∷ codes "window" ∷ codes "least" ∷ codes "floor" ∷ []
 
 abbrev report : Option ℕ → Option ℕ → List ℕ → Reply
-report x y ns = reply.Report (report_from ns x y)
+report x y ns = Reply.Report (report_from ns x y)
 
 report_is : (version : Version) (more : List Text) (r : Reply) → report_of more ≡ Some r → IsReply version (codes "mutator" ∷ keyed report_keys more) r
-report_is version [] r h = cc
-report_is version (a ∷ []) r h = cc
-report_is version (a ∷ b ∷ []) r h = cc
-report_is version (a ∷ b ∷ c ∷ []) r h = cc
-report_is version (a ∷ b ∷ c ∷ d ∷ []) r h = cc
-report_is version (a ∷ b ∷ c ∷ d ∷ e ∷ []) r h = cc
-report_is version (a ∷ b ∷ c ∷ d ∷ e ∷ f ∷ []) r h = cc
-report_is version (a ∷ b ∷ c ∷ d ∷ e ∷ f ∷ g ∷ i ∷ more) r h = cc
 report_is version (mutator ∷ collector ∷ quanta ∷ greatest ∷ window ∷ least ∷ floor ∷ []) r h =
     let texts : List Text = mutator ∷ collector ∷ quanta ∷ greatest ∷ window ∷ [] in
     let found : List Text = codes "mutator" ∷ keyed report_keys (mutator ∷ collector ∷ quanta ∷ greatest ∷ window ∷ least ∷ floor ∷ []) in
@@ -183,39 +132,37 @@ report_is version (mutator ∷ collector ∷ quanta ∷ greatest ∷ window ∷ 
           → codes "mutator" ∷ keyed report_keys (decimal a ∷ decimal b ∷ decimal c ∷ decimal d ∷ decimal e ∷ x ∷ y ∷ [])
           ≡ codes "mutator" ∷ keyed report_keys (mutator ∷ collector ∷ quanta ∷ greatest ∷ window ∷ least ∷ floor ∷ [])
       all_same a b c d e x y same p q = cc
+report_is version more r h = cc
 
 -- Replies ----------------------------------------------------------------------------------------
 
 refused-faithful : (version : Version)
-    → IsFaithful reply_words (is_reply version) (record { verb = codes "refused"; meaning = λ words. option_map (λ refusal. reply.Refused refusal) (formed refusal_forms words) })
+    → IsFaithful reply_words (is_reply version) (record { verb = codes "refused"; meaning = λ words. option_map (λ refusal. Reply.Refused refusal) (formed refusal_forms words) })
 refused-faithful version = record {
   read = λ words r h.
-      let found = mapped (λ refusal. reply.Refused refusal) (formed refusal_forms words) r h in
-      same_of reply_words (is_reply version) (codes "refused" ∷ words) (reply.Refused found.from) r found.same
-      (ap (λ (ws : List Text). codes "refused" ∷ ws) (refusal_is words found.from found.is).0, refl);
+      let found = mapped (λ refusal. Reply.Refused refusal) (formed refusal_forms words) r h in
+      grind (arith, same_of, refusal_is);
 }
 
 dump-faithful : (version : Version) → IsFaithful reply_words (is_reply version) (record { verb = codes "dump"; meaning = dump_of })
 dump-faithful version = record {
   read = λ words r h.
-      let found = chained (λ items. within (ascends None None items) (reply.Dump items)) (items_from Ready words) r h in
-      let ordered = within_is (ascends None None found.from) (reply.Dump found.from) r found.then in
+      let found = chained (λ items. within (ascends None None items) (Reply.Dump items)) (items_from Ready words) r h in
+      let ordered = within_is (ascends None None found.from) (Reply.Dump found.from) r found.then in
       let known = items_are words Ready found.from found.is refl in
-      same_of reply_words (is_reply version) (codes "dump" ∷ words) (reply.Dump found.from) r ordered.1
-      (ap (λ (ws : List Text). codes "dump" ∷ ws) known.0, and_from (items_in_range found.from) (ascends None None found.from) known.1 ordered.0);
+      grind (arith, same_of, and_from);
 }
 
-left_reply-faithful : (version : Version) → AreFaithful reply_words (is_reply version) (where_known version (with_numbers (codes "left") (u64 ∷ []) (λ ns. reply.Left (at ns 0))))
-left_reply-faithful One = tt
-left_reply-faithful Two = (numbers-faithful _ _ (codes "left") (u64 ∷ []) _ (λ a. (refl, refl)), tt)
+left_reply-faithful : (version : Version) → AreFaithful reply_words (is_reply version) (where_known version (with_numbers (codes "left") (u64 ∷ []) (λ ns. Reply.Left (at ns 0))))
+left_reply-faithful version = grind (arith, numbers-faithful)
 
 pub reply_is : (version : Version) (words : List Text) (r : Reply) → reply_of version words ≡ Some r → IsReply version words r
 reply_is version = formed-faithful reply_words (is_reply version) (reply_forms version) (
-  words-faithful _ _ (codes "ok") [] reply.Done refl refl,
+  words-faithful _ _ (codes "ok") [] Reply.Done refl refl,
   (
-    words-faithful _ _ (codes "yes") [] reply.Yes refl refl,
+    words-faithful _ _ (codes "yes") [] Reply.Yes refl refl,
     (
-      words-faithful _ _ (codes "no") [] reply.No refl refl,
+      words-faithful _ _ (codes "no") [] Reply.No refl refl,
       (
         numbers-faithful _ _ (codes "number") (u64 ∷ []) _ (λ a. (refl, refl)),
         (

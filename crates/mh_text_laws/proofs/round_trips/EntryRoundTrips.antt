@@ -1,29 +1,17 @@
 -- Entries are read as they were written.
-use Rattle.std.proofs.Common.{option_to_list, ◌≡◌, ℕ, ◌<◌, ◌^◌, nat_lt, nat_le, not, ◌&&◌, Bool, true, false, Option, Some, None, List, [], ◌∷◌, ◌++◌, length, map, flat_map, ap, ◌∙◌, refl, decimal, codes, arith, length-append, append-nil, subst}
+use Rattle.std.proofs.Common.{option_to_list, ◌≡◌, ℕ, ◌<◌, ◌^◌, nat_lt, nat_le, not, ◌&&◌, Bool, true, false, Option, Some, List, [], ◌∷◌, ◌++◌, length, map, flat_map, ap, ◌∙◌, refl, decimal, codes, arith, length-append, append-nil, subst}
 use Rattle.std.proofs.lemmas.Bool.{and_parts, and_from, not-true, ltb-true, leb-true}
 use Rattle.std.specs.List.{list_all}
-use Rattle.mh_model.specs.declared.command.Command.{Command}
-use Rattle.mh_model.specs.declared.command.Control.{Control}
-use Rattle.mh_model.specs.declared.command.Event.{Event}
-use Rattle.mh_model.specs.declared.command.Event.TheVariants as event
-use Rattle.mh_model.specs.declared.reply.Reply.{Reply}
-use Rattle.mh_model.specs.declared.reply.Reply.TheVariants as reply
-use Rattle.mh_model.specs.declared.reply.Refusal.{Refusal}
-use Rattle.mh_model.specs.declared.reply.Refusal.TheVariants.{BadSlot}
-use Rattle.mh_model.specs.declared.cycle.Phase.{Phase}
-use Rattle.mh_model.specs.declared.cycle.Phase.TheVariants.{Idle}
-use Rattle.mh_model.specs.declared.dump.DumpItem.{DumpItem}
-use Rattle.mh_model.specs.declared.dump.DumpItem.TheVariants as item
-use Rattle.mh_model.specs.declared.history.Entry.{Entry}
-use Rattle.mh_model.specs.Bytes.{Text, is_text, is_digit, number, words, joined}
-use Rattle.mh_model.specs.Forms.{u32, u64, Phrase, phrase_words, is_sayable, command_phrase, control_phrase, knows_control}
-use Rattle.mh_model.specs.declared.history.Version.{Version}
-use Rattle.mh_model.specs.declared.history.Version.TheVariants.{One, Two}
+use Rattle.mh_model.specs.{declared.command.Command.Command, declared.command.Control.Control}
+use Rattle.mh_model.specs.{declared.command.Event.Event, declared.reply.Reply.Reply, declared.reply.Refusal.Refusal}
+use Rattle.mh_model.specs.{declared.cycle.Phase.Phase, declared.dump.DumpItem.DumpItem, declared.history.Entry.Entry}
+use Rattle.mh_model.specs.Bytes.{Text, is_text, is_digit, words, joined}
+use Rattle.mh_model.specs.Forms.{u32, u64, Phrase, phrase_words, is_sayable, command_phrase, control_phrase}
+use Rattle.mh_model.specs.{declared.history.Version.Version, declared.history.Version.TheVariants.{One, Two}}
 use Rattle.mh_model.specs.Replies.{refusal_words, phase_word, flag_word, placed_word, item_words, optional_word, reply_words, are_u64, item_numbers, items_in_range, is_reply}
 use Rattle.mh_model.specs.HistoryTexts.{event_words, entry_words, measured_words, is_event, is_entry, is_measured, event_of, halves_at, entry_of, measured_of}
 use Rattle.mh_model.specs.declared.history.Measured.{Measured}
-use Rattle.mh_text_laws.proofs.PhraseLemmas.{command_passes, control_passes}
-use Rattle.mh_text_laws.proofs.ListLemmas.{all_weaker, all-append}
+use Rattle.mh_text_laws.proofs.{PhraseLemmas.{command_passes, control_passes}, ListLemmas.{all_weaker, all-append}}
 use Rattle.mh_text_laws.proofs.round_trips.WordRoundTrips.{number-decimal, numbers-decimal, decimal_word, is_word, are_words, words-joined, all-decimals, are_small, digit_other, is_numbered, numbered_first}
 use Rattle.mh_text_laws.proofs.round_trips.ReplyRoundTrips.{small_numbers, command_of-words, control_of-words, reply_of-words}
 
@@ -50,8 +38,7 @@ plain_units ws h = all_weaker is_plain (λ w. not (is_text w (codes "units"))) w
 
 -- a word that begins with a digit is no mark
 no_mark : (c : ℕ) (cs word : Text) → is_digit c ≡ false → is_numbered word ≡ true → not (is_text word (c ∷ cs)) ≡ true
-no_mark c cs [] no_digit numbered = cc
-no_mark c cs (d ∷ ds) no_digit numbered = rw (digit_other c d no_digit numbered) refl
+no_mark c cs word no_digit numbered = grind (arith, digit_other)
 
 plain_numbered : (word : Text) → is_word word ≡ true → is_numbered word ≡ true → is_plain word ≡ true
 plain_numbered word is numbered = and_from _ _ is (and_from _ _ (no_mark 61 [] word refl numbered) (no_mark 117 (codes "nits") word refl numbered))
@@ -78,9 +65,7 @@ abbrev is_fine : Phrase → Bool
 is_fine said = is_fine_form said.verb said.bounds
 
 phrase_plain : (said : Phrase) → is_fine said ≡ true → is_sayable said ≡ true → are_plain (phrase_words said) ≡ true
-phrase_plain said fine h =
-    let both = and_parts (is_plain said.verb) (list_all (λ bound. nat_le bound u64) said.bounds) fine in
-    and_from _ _ both.0 (plain_decimals said.numbers (small_numbers said.bounds said.numbers h both.1))
+phrase_plain said fine h = grind (arith, and_parts, nat_le, and_from, plain_decimals, small_numbers)
 
 fine_command : (c : Command) → is_fine (command_phrase c) ≡ true
 fine_command c = command_passes is_fine_form refl c
@@ -92,54 +77,30 @@ small_who : (who : ℕ) → nat_le who 8 ≡ true → who < 2 ^ 64
 small_who who h = omega (arith, leb-true who 8 h)
 
 event_plain : (version : Version) (e : Event) → is_event version e ≡ true → are_plain (event_words e) ≡ true
-event_plain version (event.Session who c) h =
-    let both = and_parts (nat_le who 8) (is_sayable (command_phrase c)) h in
-    and_from _ _ (and_from _ _ (decimal_word who (small_who who both.0)) refl) (phrase_plain (command_phrase c) (fine_command c) both.1)
-event_plain version (event.Control c) h = phrase_plain (control_phrase c) (fine_control c) (and_parts _ _ h).1
+event_plain version e h = grind (arith, and_parts, nat_le, and_from, decimal_word, small_who, phrase_plain, fine_command, fine_control)
 
 pub event_of-words : (version : Version) (e : Event) → is_event version e ≡ true → event_of version (event_words e) ≡ Some e
-event_of-words version (event.Session who c) h =
-    let both = and_parts (nat_le who 8) (is_sayable (command_phrase c)) h in
-    let n : number (decimal who) ≡ Some who = number-decimal who (small_who who both.0) in
-    rw (n, both.0, command_of-words c both.1) refl
-event_of-words version (event.Control c) h =
-    let both = and_parts (knows_control version c) (is_sayable (control_phrase c)) h in
-    rw (control_of-words version c both.0 both.1) refl
+event_of-words version e h = grind (arith, and_parts, nat_le, number-decimal, small_who, command_of-words, control_of-words)
 
 -- Replies ----------------------------------------------------------------------------------------
 
 placed_plain : (mark slot a b : ℕ) → nat_lt 32 mark ≡ true → are_u64 (slot ∷ a ∷ b ∷ []) ≡ true → is_plain (placed_word mark slot a b) ≡ true
-placed_plain mark slot a b high h =
-    let small = are_small slot a b h in
-    let place : is_word (mark ∷ (decimal a ++ 46 ∷ decimal b)) ≡ true =
-    and_from _ _ high (all-append (λ c. nat_lt 32 c) (decimal a) (46 ∷ decimal b) (decimal_word a small.second) (decimal_word b small.third)) in
-    plain_numbered (placed_word mark slot a b)
-    (all-append (λ c. nat_lt 32 c) (decimal slot) (mark ∷ (decimal a ++ 46 ∷ decimal b)) (decimal_word slot small.first) place)
-    (numbered_first slot (mark ∷ (decimal a ++ 46 ∷ decimal b)) small.first)
+placed_plain mark slot a b high h = grind (arith, are_small, is_word, and_from, all-append, decimal_word, plain_numbered, numbered_first)
 
 flag_plain : (flag : Bool) → is_plain (flag_word flag) ≡ true
-flag_plain true = refl
-flag_plain false = refl
+flag_plain flag = grind arith
 
 phase_plain : (phase : Phase) → is_plain (phase_word phase) ≡ true
-phase_plain Idle = refl
-phase_plain other = refl
+phase_plain other = grind arith
 
 optional_plain : (n : Option ℕ) → are_u64 (option_to_list n) ≡ true → is_plain (optional_word n) ≡ true
-optional_plain None h = refl
-optional_plain (Some n) h = plain_decimal n (ltb-true n u64 (and_parts _ _ h).0)
+optional_plain n h = grind (arith, plain_decimal, ltb-true, and_parts)
 
 refusal_plain : (refusal : Refusal) → are_plain (refusal_words refusal) ≡ true
-refusal_plain BadSlot = refl
-refusal_plain other = refl
+refusal_plain other = grind arith
 
 item_plain : (i : DumpItem) → are_u64 (item_numbers i) ≡ true → are_plain (item_words i) ≡ true
-item_plain (item.Page page class_size flag) h =
-    let p : is_word (decimal page) ≡ true = decimal_word page (ltb-true page u64 (and_parts _ _ h).0) in
-    let c : is_word (decimal class_size) ≡ true = decimal_word class_size (ltb-true class_size u64 (and_parts _ _ (and_parts _ _ h).1).0) in
-    rw (p, c, flag_plain flag) refl
-item_plain (item.Block slot a b) h = and_from _ _ (placed_plain 61 slot a b refl h) refl
-item_plain (item.Forwarder slot a b) h = and_from _ _ (placed_plain 62 slot a b refl h) refl
+item_plain i h = grind (arith, is_word, decimal_word, ltb-true, and_parts, flag_plain, and_from, placed_plain)
 
 items_plain : (items : List DumpItem) → items_in_range items ≡ true → are_plain (flat_map item_words items) ≡ true
 items_plain [] h = refl
@@ -147,17 +108,15 @@ items_plain (i ∷ items) h =
     all-append is_plain (item_words i) (flat_map item_words items) (item_plain i (and_parts _ _ h).0) (items_plain items (and_parts _ _ h).1)
 
 reply_plain : (version : Version) (r : Reply) → is_reply version r ≡ true → are_plain (reply_words r) ≡ true
-reply_plain version (reply.Number n) h = plain_decimals (n ∷ []) h
-reply_plain version (reply.Shape shape) h = plain_decimals (shape.references ∷ shape.numbers ∷ []) (small_numbers (u32 ∷ u32 ∷ []) (shape.references ∷ shape.numbers ∷ []) h refl)
-reply_plain version (reply.Refused refusal) h = refusal_plain refusal
-reply_plain version (reply.Spent units phase) h = next_plain units [] _ h (λ end. and_from _ _ (phase_plain phase) refl)
-reply_plain version (reply.Stat stat) h =
+reply_plain version (Reply.Number n) h = plain_decimals (n ∷ []) h
+reply_plain version (Reply.Shape shape) h = plain_decimals (shape.references ∷ shape.numbers ∷ []) (small_numbers (u32 ∷ u32 ∷ []) (shape.references ∷ shape.numbers ∷ []) h refl)
+reply_plain version (Reply.Refused refusal) h = refusal_plain refusal
+reply_plain version (Reply.Spent units phase) h = next_plain units [] _ h (λ end. and_from _ _ (phase_plain phase) refl)
+reply_plain version (Reply.Stat stat) h =
     next_plain stat.free (stat.live ∷ stat.old ∷ stat.cycle ∷ []) _ h
-    (λ h1. next_plain stat.live (stat.old ∷ stat.cycle ∷ []) _ h1
-    (λ h2. next_plain stat.old (stat.cycle ∷ []) _ h2
-    (λ h3. and_from _ _ (phase_plain stat.phase) (plain_decimals (stat.cycle ∷ []) h3))))
-reply_plain version (reply.Dump items) h = items_plain items (and_parts _ _ h).0
-reply_plain version (reply.Report report) h =
+    (search (arith, next_plain, and_from, phase_plain, plain_decimals))
+reply_plain version (Reply.Dump items) h = items_plain items (and_parts _ _ h).0
+reply_plain version (Reply.Report report) h =
     let both = and_parts (are_u64 (report.mutator ∷ report.collector ∷ report.quanta ∷ report.greatest ∷ report.window ∷ [])) (are_u64 (option_to_list report.least) && are_u64 (option_to_list report.floor)) h in
     next_plain report.mutator (report.collector ∷ report.quanta ∷ report.greatest ∷ report.window ∷ []) _ both.0
     (λ h1. next_plain report.collector (report.quanta ∷ report.greatest ∷ report.window ∷ []) _ h1
@@ -165,8 +124,8 @@ reply_plain version (reply.Report report) h =
     (λ h3. next_plain report.greatest (report.window ∷ []) _ h3
     (λ h4. next_plain report.window [] _ h4
     (λ end. and_from _ _ (optional_plain report.least (and_parts _ _ both.1).0) (and_from _ _ (optional_plain report.floor (and_parts _ _ both.1).1) refl))))))
-reply_plain One (reply.Left quanta) h = cc
-reply_plain Two (reply.Left quanta) h = plain_decimals (quanta ∷ []) h
+reply_plain One (Reply.Left quanta) h = cc
+reply_plain Two (Reply.Left quanta) h = plain_decimals (quanta ∷ []) h
 reply_plain version other h = refl
 
 -- Entries ----------------------------------------------------------------------------------------
@@ -180,23 +139,13 @@ halves_at-words mark (x ∷ xs) ys same h =
     rw (other, halves_at-words mark xs ys same both.1) refl
 
 entry_of-words : (version : Version) (e : Entry) → is_entry version e ≡ true → entry_of version (entry_words e) ≡ Some e
-entry_of-words version e h =
-    let both = and_parts (is_event version e.event) (is_reply version e.reply) h in
-    rw (
-      halves_at-words (codes "=") (event_words e.event) (reply_words e.reply) refl (plain_equals (event_words e.event) (event_plain version e.event both.0)),
-      event_of-words version e.event both.0,
-      reply_of-words version e.reply both.1,
-    ) refl
+entry_of-words version e h = grind (arith, and_parts, halves_at-words, plain_equals, event_plain, event_of-words, reply_of-words)
 
 pub entry_are_words : (version : Version) (e : Entry) → is_entry version e ≡ true → are_words (entry_words e) ≡ true
-entry_are_words version e h =
-    all-append is_word (event_words e.event) (codes "=" ∷ reply_words e.reply) (plain_words (event_words e.event) (event_plain version e.event (and_parts _ _ h).0))
-    (plain_words (reply_words e.reply) (reply_plain version e.reply (and_parts _ _ h).1))
+entry_are_words version e h = grind (arith, all-append, is_word, plain_words, event_plain, and_parts, reply_plain)
 
 entry_no_units : (version : Version) (e : Entry) → is_entry version e ≡ true → are_not (codes "units") (entry_words e) ≡ true
-entry_no_units version e h =
-    all-append (λ word. not (is_text word (codes "units"))) (event_words e.event) (codes "=" ∷ reply_words e.reply)
-    (plain_units (event_words e.event) (event_plain version e.event (and_parts _ _ h).0)) (plain_units (reply_words e.reply) (reply_plain version e.reply (and_parts _ _ h).1))
+entry_no_units version e h = grind (arith, all-append, plain_units, event_plain, and_parts, reply_plain)
 
 measured_of-words : (m : Measured) → is_measured m ≡ true → measured_of (measured_words m) ≡ Some m
 measured_of-words m h =
@@ -218,8 +167,7 @@ words-line [] some h = absurd (omega arith)
 words-line (w ∷ ws) some h = words-joined w ws h
 
 some_event : (e : Event) → 0 < length (event_words e)
-some_event (event.Session who c) = omega arith
-some_event (event.Control c) = omega arith
+some_event e = grind arith
 
 some_entry : (e : Entry) → 0 < length (entry_words e)
 some_entry e = omega (arith, some_event e.event, length-append (event_words e.event) (codes "=" ∷ reply_words e.reply))
@@ -228,7 +176,4 @@ pub entry_of-line : (version : Version) (e : Entry) → is_entry version e ≡ t
 entry_of-line version e h = ap (entry_of version) (words-line (entry_words e) (some_entry e) (entry_are_words version e h)) ∙ entry_of-words version e h
 
 pub measured_of-line : (m : Measured) → is_measured m ≡ true → measured_of (words (joined (measured_words m))) ≡ Some m
-measured_of-line m h =
-    let units : List Text = codes "units" ∷ decimal m.mutator ∷ decimal m.collector ∷ [] in
-    let some : 0 < length (measured_words m) = omega (arith, some_entry m.entry, length-append (entry_words m.entry) units) in
-    ap measured_of (words-line (measured_words m) some (measured_are_words m h)) ∙ measured_of-words m h
+measured_of-line m h = grind (arith, some_entry, length-append, words-line, measured_are_words, measured_of-words)

@@ -1,11 +1,9 @@
 -- Histories of both versions are read as they were written.
 use Rattle.std.proofs.Common.{◌≡◌, ◌∙◌, ℕ, suc, ◌≤◌, Bool, true, Option, Some, List, [], ◌∷◌, length, map, ap, sym, refl, codes, append-nil}
-use Rattle.std.specs.List.{list_all}
 use Rattle.std.proofs.lemmas.Bool.{and_parts, and_from}
-use Rattle.mh_model.specs.declared.config.Config.{Config}
-use Rattle.mh_model.specs.declared.history.Entry.{Entry}
-use Rattle.mh_model.specs.Bytes.{Text, cut_after, words, joined, lines_text}
-use Rattle.mh_model.specs.declared.history.Version.TheVariants.{One}
+use Rattle.std.specs.List.{list_all}
+use Rattle.mh_model.specs.{declared.config.Config.Config, declared.history.Entry.Entry}
+use Rattle.mh_model.specs.{Bytes.{Text, cut_after, words, joined, lines_text}, declared.history.Version.TheVariants.One}
 use Rattle.mh_model.specs.Script.{Means, reading_map}
 use Rattle.mh_model.specs.HistoryTexts.{Recorded, entry_words, measured_line, measured_words, is_entry, is_measured, entry_of, measured_of, header_words, header_of, history_text, recorded_text, entries_from, history_of, history_reading, recorded_by, recorded_of, recorded_reading}
 use Rattle.mh_model.specs.declared.history.Measured.{Measured}

@@ -1,26 +1,17 @@
 -- Dumps and stats of a run are well formed: pages and slots ascend, and their numbers are in range.
 use Rattle.std.proofs.Common.{◌≡◌, ◌∙◌, ℕ, suc, ◌+◌, ◌*◌, ◌/◌, ◌%◌, ◌<◌, ◌≤◌, ◌^◌, not, nat_le, Bool, true, List, [], ◌∷◌, ◌++◌, length, filter, get_or, Option, Some, None, option_and_then, ap, refl, arith, length-append}
-use Rattle.std.proofs.lemmas.List.Filters.{length-filter_both}
-use Rattle.std.proofs.lemmas.Bool.{and_from, leb-true, ltb-true, lt-ltb}
-use Rattle.mh_model.specs.declared.command.Event.{Event}
-use Rattle.mh_model.specs.declared.config.Config.{Config}
-use Rattle.mh_model.specs.declared.dump.DumpItem.{DumpItem}
-use Rattle.mh_model.specs.declared.history.Version.TheVariants.{Two}
-use Rattle.mh_model.specs.declared.reply.Reply.TheVariants as reply
-use Rattle.mh_model.specs.Classes.{class_sizes, is_class_size}
-use Rattle.mh_model.specs.Collector.{Collector}
-use Rattle.mh_model.specs.Forms.{u64}
+use Rattle.std.proofs.{lemmas.List.Filters.length-filter_both, lemmas.Bool.{and_from, leb-true, ltb-true, lt-ltb}}
+use Rattle.mh_model.specs.{declared.command.Event.Event, declared.config.Config.Config, declared.dump.DumpItem.DumpItem}
+use Rattle.mh_model.specs.{declared.history.Version.TheVariants.Two, declared.reply.Reply.Reply}
+use Rattle.mh_model.specs.{Classes.{class_sizes, is_class_size}, Collector.Collector, Forms.u64}
 use Rattle.mh_model.specs.Machine.{Machine, blocks_in, blocks_of, dump_block, dump_pages, dump_slots, first_machine, machine_after, stat_on}
 use Rattle.mh_model.specs.Pages.{Page, Table, block_at, block_in, free_pages, page_at}
 use Rattle.mh_model.specs.Replies.{are_u64, ascends, is_after, is_reply, item_numbers, items_in_range}
 use Rattle.mh_model.specs.Table.{Block, is_forwarder}
-use Rattle.mh_table_laws.proofs.Lists.{below_length, member-passes}
-use Rattle.mh_table_laws.proofs.tables.PageSlots.{slots_in-class_size}
-use Rattle.mh_laws.proofs.commands.LeftUnchanged.{machine_after-pages}
-use Rattle.mh_laws.proofs.snapshots.RunningCycles.{moments_keep}
+use Rattle.mh_table_laws.proofs.{Lists.{below_length, member-passes}, tables.PageSlots.slots_in-class_size}
+use Rattle.mh_laws.proofs.{commands.LeftUnchanged.machine_after-pages, snapshots.RunningCycles.moments_keep}
 use Rattle.mh_run_laws.proofs.bounds.WithinEvents.{runs_within_events}
-use Rattle.mh_text_laws.proofs.round_trips.HeaderRoundTrips.{config_limits}
-use Rattle.mh_text_laws.proofs.run_histories.Forwarders.{IsNear, run-near}
+use Rattle.mh_text_laws.proofs.{round_trips.HeaderRoundTrips.config_limits, run_histories.Forwarders.{IsNear, run-near}}
 
 -- Ascending --------------------------------------------------------------------------------------
 
@@ -146,10 +137,10 @@ module _ (config : Config) (events : List Event) (few : length events < 1000000)
   pages_few : length collector.table ≤ 4096
   pages_few = omega (arith, (machine_after-pages config events).pages, (config_limits config).pages_most)
 
-  pub dump-in_range : is_reply Two (reply.Dump (dump_pages 0 collector.table)) ≡ true
+  pub dump-in_range : is_reply Two (Reply.Dump (dump_pages 0 collector.table)) ≡ true
   dump-in_range = and_from _ _ (pages_in_range 0 collector.table (omega (arith, pages_few)) table_shown) (pages_ascend 0 collector.table None None refl)
 
-  pub stat-in_range : is_reply Two (reply.Stat (stat_on collector)) ≡ true
+  pub stat-in_range : is_reply Two (Reply.Stat (stat_on collector)) ≡ true
   stat-in_range =
       let blocks = blocks-few collector.table table_shown in
       let stat = stat_on collector in

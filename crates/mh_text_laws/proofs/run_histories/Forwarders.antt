@@ -1,39 +1,31 @@
 -- Forwarders of a run lead to places of 4,096 pages: each is made with the place of its copy, and no other step writes one.
-use Rattle.std.proofs.Common.{◌≡◌, ℕ, zero, suc, ◌-◌, ◌<◌, ◌||◌, nat_lt, Bool, true, false, if◌then◌else◌, inl, inr, List, [], ◌∷◌, get_or, set, Option, Some, None, option_map, option_and_then, refl, sym, ap, ◌∙◌, subst, arith}
-use Rattle.std.proofs.lemmas.Bool.{cases_Bool}
-use Rattle.std.proofs.lemmas.Option.{none-some, same_Some}
-use Rattle.mh_model.specs.declared.command.Command.{Command}
-use Rattle.mh_model.specs.declared.command.Event.{Event}
-use Rattle.mh_model.specs.declared.config.Config.{Config}
-use Rattle.mh_model.specs.declared.cycle.Phase.{Phase}
-use Rattle.mh_model.specs.declared.cycle.Phase.TheVariants.{Idle, Roots, Mark, Sweep, Defrag}
+use Rattle.std.proofs.Common.{◌≡◌, ℕ, zero, suc, ◌-◌, ◌<◌, ◌||◌, nat_lt, Bool, true, inl, inr, List, [], ◌∷◌, set, Option, Some, None, option_map, option_and_then, refl, sym, ◌∙◌, subst, arith}
+use Rattle.std.proofs.{lemmas.Bool.cases_Bool, lemmas.Option.{none-some, same_Some}}
+use Rattle.mh_model.specs.{declared.command.Command.Command, declared.command.Event.Event}
+use Rattle.mh_model.specs.{declared.config.Config.Config, declared.cycle.Phase.Phase}
 use Rattle.mh_model.specs.Classes.{Part, class_of, part_words, parts, slots_in}
 use Rattle.mh_model.specs.Pages.{Page, Table, page_number, slot_number, page_at, block_in, block_at, least_place, page_with, with_block, page_for, with_taken}
 use Rattle.mh_model.specs.Table.{Block, Made, MadeParts, new_block, made_in_class, made_part, made_parts, with_block_change, linked_block, linked_parts, group_of, made_group}
-use Rattle.mh_model.specs.Collector.{Collector, first_collector, is_last_slot, survivor, judged_page, swept_page, swept_table, next_move, Move, with_move, marking_of, step_in, collector_step, step_cost, is_moving, is_idle, quantum_start, Spending, steps, quantum}
+use Rattle.mh_model.specs.Collector.{Collector, first_collector, swept_page, swept_table, next_move, Move, with_move, step_in, collector_step, step_cost, is_moving, is_idle, Spending, steps, quantum}
 use Rattle.mh_model.specs.Mutator.{HeapState, mutator_step}
 use Rattle.mh_model.specs.Machine.{Machine, first_machine, with_collector, quantum_run, command_step, machine_after}
 use Rattle.mh_model.specs.Invariant.{HasItsPages}
 use Rattle.mh_table_laws.proofs.Lists.{below_length, get_or-set_either, none_at}
-use Rattle.mh_table_laws.proofs.placing.Places.{least_dense_place-page, shaped-slots}
-use Rattle.mh_table_laws.proofs.tables.BlockRoom.{survivor-same}
+use Rattle.mh_table_laws.proofs.{placing.Places.{least_dense_place-page, shaped-slots}, tables.BlockRoom.survivor-same}
 use Rattle.mh_table_laws.proofs.tables.PageSlots.{judged_page-is}
 use Rattle.mh_laws.proofs.commands.EachCommand.{IsKeptByWrites, shade-each, mark_first-each, over_tables, heap_effect-each, mutator_step-each}
 use Rattle.mh_laws.proofs.commands.LeftUnchanged.{table-phase_after, table-quantum_start, tables-keep, first_table-pages}
-use Rattle.mh_laws.proofs.costs.Quanta.{steps-stop, steps-go}
-use Rattle.mh_laws.proofs.moving.NextMove.{IsNextMove, next_move-is}
+use Rattle.mh_laws.proofs.{costs.Quanta.{steps-stop, steps-go}, moving.NextMove.{IsNextMove, next_move-is}}
 use Rattle.mh_laws.proofs.runs.EveryMoment.{config-mutator_step, machine_after-keeps}
 use Rattle.mh_text_laws.proofs.round_trips.HeaderRoundTrips.{config_limits}
 
 -- Options ----------------------------------------------------------------------------------------
 
 pub and_then-some : {A B : Type 0} (f : A → Option B) (o : Option A) (b : B) → option_and_then f o ≡ Some b → (a : A) × (o ≡ Some a) × (f a ≡ Some b)
-and_then-some f None b e = absurd (none-some b e)
-and_then-some f (Some a) b e = (a, refl, e)
+and_then-some f o b e = grind (arith, none-some)
 
 pub map-some : {A B : Type 0} (f : A → B) (o : Option A) (b : B) → option_map f o ≡ Some b → (a : A) × (o ≡ Some a) × (f a ≡ b)
-map-some f None b e = absurd (none-some b e)
-map-some f (Some a) b e = (a, refl, same_Some (f a) b e)
+map-some f o b e = grind (arith, none-some, same_Some)
 
 -- Blocks and pages -------------------------------------------------------------------------------
 
@@ -80,9 +72,7 @@ with_block-near : (table : Table Block) (place : ℕ) (content : Option Block) �
 with_block-near table place content new near = set-near table (page_number place) _ written near
   where
     written : (page : Page Block) → option_map (page_with (slot_number place) content) (page_at table (page_number place)) ≡ Some page → IsNearPage page
-    written page e =
-        let (old, at, is) = map-some (page_with (slot_number place) content) (page_at table (page_number place)) page e in
-        subst IsNearPage is (page_with-near old (slot_number place) content (near.pages (page_number place) old at) new)
+    written page e = grind (arith, map-some, page_with-near)
 
 -- a block changed that leads where it led
 change-near : (table : Table Block) (place : ℕ) (change : Block → Block) → ((block : Block) → (change block).forward ≡ block.forward) → IsNearTable table → IsNearTable (with_block_change table place change)
@@ -100,9 +90,7 @@ with_taken-near table size place block here near = set-near table (page_number p
     taken = page_for size (page_at table (page_number place))
 
     written : (page : Page Block) → Some (page_with (slot_number place) (Some block) taken) ≡ Some page → IsNearPage page
-    written page e =
-        subst IsNearPage (same_Some (page_with (slot_number place) (Some block) taken) page e)
-        (page_with-near taken (slot_number place) (Some block) (page_for-near size (page_at table (page_number place)) (near.pages (page_number place))) (λ b same. subst IsNear (same_Some block b same) here))
+    written page e = grind (arith, same_Some, page_with-near, page_for-near)
 
 -- the forwarders of the second are near if those of the first are
 abbrev StaysNear : Table Block → Table Block → Type 0
@@ -138,10 +126,9 @@ made_parts-near (part ∷ list) table birth stamp index made e near =
     subst (λ (m : MadeParts). IsNearTable m.table) same (made_parts-near list first.table birth stamp (suc index) rest all (made_part-near table birth stamp index part first is near))
 
 linked_parts-near : (all places : List ℕ) (list : List Part) (table : Table Block) → IsNearTable table → IsNearTable (linked_parts all table places list)
-linked_parts-near all [] list table near = near
-linked_parts-near all (place ∷ places) [] table near = near
 linked_parts-near all (place ∷ places) (part ∷ list) table near =
     linked_parts-near all places list (with_block_change table place (linked_block all part)) (change-near table place (linked_block all part) (λ block. refl) near)
+linked_parts-near all places list table near = near
 
 group_of-near : (table : Table Block) (places : List ℕ) (list : List Part) (made : Made) → group_of table places list ≡ Some made → IsNearTable table → IsNearTable made.table
 group_of-near table [] list made e near = absurd (none-some made e)
@@ -150,32 +137,12 @@ group_of-near table (place ∷ places) list made e near =
     (linked_parts-near (place ∷ places) (place ∷ places) list table near)
 
 made_group-near : (table : Table Block) (birth stamp : ℕ) (list : List Part) (made : Made) → made_group table birth stamp list ≡ Some made → IsNearTable table → IsNearTable made.table
-made_group-near table birth stamp list made e near =
-    let (all, is, grouped) = and_then-some (λ (m : MadeParts). group_of m.table m.places list) (made_parts table birth stamp 0 list) made e in
-    group_of-near all.table all.places list made grouped (made_parts-near list table birth stamp 0 all is near)
+made_group-near table birth stamp list made e near = grind (arith, and_then-some, group_of-near, made_parts-near)
 
 -- Sweep and moves --------------------------------------------------------------------------------
 
 swept_page-near : (cycle : ℕ) (table : Table Block) (place : ℕ) (page new : Page Block) → IsNearPage page → swept_page cycle table place page ≡ Some new → IsNearPage new
-swept_page-near cycle table place page new near e = go (is_last_slot place page) e
-  where
-    content : Option Block
-    content = option_and_then (survivor cycle) (block_in (slot_number place) page)
-
-    swept : Page Block
-    swept = page_with (slot_number place) content page
-
-    survives : (block : Block) → content ≡ Some block → IsNear block
-    survives block left =
-        let (old, at, is) = and_then-some (survivor cycle) (block_in (slot_number place) page) block left in
-        subst IsNear (survivor-same cycle old block is) (near.blocks (slot_number place) old at)
-
-    swept_near : IsNearPage swept
-    swept_near = page_with-near page (slot_number place) content near survives
-
-    go : (last : Bool) → (if last then judged_page table (page_number place) swept else Some swept) ≡ Some new → IsNearPage new
-    go true h = record { blocks = λ slot block at. swept_near.blocks slot block (ap (λ slots. get_or slots slot None) (sym (judged_page-is table (page_number place) swept new h).slots) ∙ at) }
-    go false h = subst IsNearPage (same_Some swept new h) swept_near
+swept_page-near cycle table place page new near e = grind (arith, and_then-some, survivor-same, page_with-near, judged_page-is, same_Some)
 
 swept_table-near : (cycle : ℕ) (table : Table Block) (place : ℕ) → IsNearTable table → IsNearTable (swept_table cycle table place)
 swept_table-near cycle table place near = set-near table (page_number place) _ written near
@@ -192,9 +159,7 @@ module _ (config : Config) where
 
   with_move-near : (collector : Collector) (move : Option Move) → next_move collector.table collector.cursor ≡ move → HasItsPages config collector.table → IsNearTable collector.table → IsNearTable (with_move collector move).table
   with_move-near collector None is has near = near
-  with_move-near collector (Some move) is has near =
-      with_block-near taken collector.cursor (Some forwarder) (λ block e. subst IsNear (same_Some forwarder block e) leads)
-      (with_taken-near collector.table move.class_size move.target move.block (plain_near move.block one.live) near)
+  with_move-near collector (Some move) is has near = grind (arith, with_block-near, taken, forwarder, same_Some, leads, with_taken-near, plain_near)
     where
       taken : Table Block
       taken = with_taken collector.table move.class_size move.target move.block
@@ -211,11 +176,7 @@ module _ (config : Config) where
           record { target = λ place e. subst (λ p. p < most_places) (same_Some move.target place e) (place_near collector.table move.target there.0 has there.1) }
 
   step_in-near : (phase : Phase) (collector : Collector) → HasItsPages config collector.table → IsNearTable collector.table → IsNearTable (step_in phase collector).table
-  step_in-near Idle collector has near = near
-  step_in-near Roots collector has near = shade-each StaysNear stays_near (marking_of collector) _ near
-  step_in-near Mark collector has near = mark_first-each StaysNear stays_near (marking_of collector) collector.grey near
-  step_in-near Sweep collector has near = swept_table-near collector.cycle collector.table collector.cursor near
-  step_in-near Defrag collector has near = with_move-near collector (next_move collector.table collector.cursor) refl has near
+  step_in-near phase collector has near = grind (arith, shade-each, stays_near, mark_first-each, swept_table-near, with_move-near)
 
   collector_step-near : (collector : Collector) → HasItsPages config collector.table → IsNearTable collector.table → IsNearTable (collector_step collector).table
   unfolding collector_step
@@ -233,9 +194,7 @@ module _ (config : Config) where
 
   quantum-near : (collector : Collector) → HasItsPages config collector.table → IsNearTable collector.table → IsNearTable (quantum config collector).collector.table
   unfolding quantum
-  quantum-near collector has near =
-      let same = sym (table-quantum_start config collector) in
-      steps-near config.quantum config.quantum false (quantum_start config collector) (subst (HasItsPages config) same has) (subst IsNearTable same near)
+  quantum-near collector has near = grind (arith, table-quantum_start, steps-near)
 
 -- Commands ---------------------------------------------------------------------------------------
 

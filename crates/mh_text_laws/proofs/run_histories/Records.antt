@@ -1,13 +1,9 @@
 -- The history that a run writes is read back, and is legal.
-use Rattle.std.proofs.Common.{◌≡◌, ◌∙◌, ◌+◌, ◌≤◌, true, List, [], ◌∷◌, ◌++◌, length, length-append, map, take, ap, refl, subst, sym, arith}
+use Rattle.std.proofs.Common.{◌≡◌, ◌∙◌, ◌+◌, ◌≤◌, true, List, [], ◌∷◌, ◌++◌, length, length-append, map, take, ap, refl, sym, arith}
+use Rattle.std.proofs.{lemmas.Bool.{and_from, and_parts}, lemmas.List.length-take}
 use Rattle.std.specs.List.{list_all}
-use Rattle.std.proofs.lemmas.Bool.{and_from, and_parts}
-use Rattle.std.proofs.lemmas.List.{length-take}
-use Rattle.mh_model.specs.declared.command.Event.{Event}
-use Rattle.mh_model.specs.declared.config.Config.{Config}
-use Rattle.mh_model.specs.declared.history.Version.TheVariants.{Two}
-use Rattle.mh_model.specs.declared.reply.Reply.{Reply}
-use Rattle.mh_model.specs.Bytes.{Text}
+use Rattle.mh_model.specs.{declared.command.Event.Event, declared.config.Config.Config}
+use Rattle.mh_model.specs.{declared.history.Version.TheVariants.Two, declared.reply.Reply.Reply}
 use Rattle.mh_model.specs.HistoryTexts.{IsLegalRecord, is_event, is_measured, machine_record, recorded_text}
 use Rattle.mh_model.specs.Limits.{most_entries}
 use Rattle.mh_model.specs.Machine.{Machine, event_step, first_machine, machine_after, machine_replies}
@@ -30,8 +26,7 @@ module _ (config : Config) where
       let here = (and_parts _ _ more).0 in
       let longer : list_all (is_event Two) (before ++ e ∷ []) ≡ true = all-append (is_event Two) before (e ∷ []) known (and_from _ _ here refl) in
       let later = record_from events (before ++ e ∷ []) longer (and_parts _ _ more).1 (omega (arith, few, length-append before (e ∷ []))) in
-      and_from _ _ (measured-in_range config before e known here (omega (arith, few)))
-      (subst (λ (m : Machine). list_all is_measured (machine_record m events) ≡ true) (step-after config before e) later)
+      grind (arith, and_from, measured-in_range, step-after)
 
   record_in_range : (events : List Event) → list_all (is_event Two) events ≡ true → length events ≤ 1000000 → list_all is_measured (machine_record (first_machine config) events) ≡ true
   unfolding machine_after
@@ -44,20 +39,11 @@ record_replies machine (e ∷ events) = ap (λ (replies : List Reply). (event_st
 
 record_legal : (config : Config) (events : List Event) → length events ≤ 1000000 → IsLegalRecord config (machine_record (first_machine config) events)
 unfolding most_entries
-record_legal config events few = record {
-  few = omega (arith, few, record_length (first_machine config) events);
-  same = ap (machine_record (first_machine config)) (sym (record_events (first_machine config) events));
-}
+record_legal config events few = grind (arith, record_length, record_events)
 
 run_history_is : (config : Config) (events : List Event) → list_all (is_event Two) events ≡ true → length events ≤ 1000000 → length (recorded_text (recorded_run config events)) ≤ 2147483648
     → IsRunHistory config events (recorded_text (recorded_run config events))
-run_history_is config events known few short =
-    let read = recorded_reading-text (recorded_run config events) (record_in_range config events known few) short in
-    record {
-      read = read;
-      audited = rw read (record_legal config events few, sym (record_length (first_machine config) events));
-      replies = record_replies (first_machine config) events;
-    }
+run_history_is config events known few short = search (arith, recorded_reading-text, record_in_range, record_legal, record_length, record_replies)
 
 taken-few : (events : List Event) → length (take most_entries events) ≤ 1000000
 unfolding most_entries
@@ -71,5 +57,4 @@ histories_legal rules text script means short =
     let known = all-take (is_event Two) most_entries script.events (ap (λ (s : Meaning). list_all (is_event Two) s.events) (sym under) ∙ (script_known text raw is).events) in
     let events : List Event = take most_entries script.events in
     let same : history_output rules text ≡ recorded_text (recorded_run script.config events) = ap history_output_of means in
-    subst (IsRunHistory script.config events) (sym same)
-    (run_history_is script.config events known (taken-few script.events) (subst (λ (t : Text). length t ≤ 2147483648) same short))
+    search (arith, run_history_is, taken-few)

@@ -1,30 +1,18 @@
 -- Replies to controls are well formed, and so are the units of each event.
-use Rattle.std.specs.Prelude.{◌-◌, nat_lt}
-use Rattle.std.proofs.Common.{◌≡◌, ◌∙◌, ℕ, suc, ◌+◌, ◌-◌, ◌*◌, ◌/◌, ◌%◌, ◌==◌, ◌<◌, ◌≤◌, ◌^◌, min, nat_lt, Bool, true, false, if◌then◌else◌, List, [], ◌∷◌, ◌++◌, length, map, take, Option, Some, None, option_to_list, refl, subst, arith, length-append}
-use Rattle.std.specs.List.{list_all}
-use Rattle.std.proofs.Math.Nat.{div-add-mod, mul-le-mul_left}
-use Rattle.std.proofs.lemmas.Bool.{and_from, and_parts, lt-ltb, ltb-true}
-use Rattle.std.proofs.lemmas.List.{length-take}
-use Rattle.std.proofs.lemmas.Option.{none-some, same_Some}
-use Rattle.mh_model.specs.declared.command.Control.{Control}
-use Rattle.mh_model.specs.declared.command.Control.TheVariants as control
-use Rattle.mh_model.specs.declared.command.Event.{Event}
-use Rattle.mh_model.specs.declared.command.Event.TheVariants as event
-use Rattle.mh_model.specs.declared.config.Config.{Config}
-use Rattle.mh_model.specs.declared.history.Version.TheVariants.{Two}
-use Rattle.mh_model.specs.declared.reply.Reply.TheVariants as reply
-use Rattle.mh_model.specs.Bound.{most_quanta, most_steps, most_units}
-use Rattle.mh_model.specs.Collector.{Collector, is_idle, quantum}
+use Rattle.std.specs.{Prelude.{◌-◌, nat_lt}, List.list_all}
+use Rattle.std.proofs.Common.{◌≡◌, ◌∙◌, ℕ, suc, ◌+◌, ◌-◌, ◌*◌, ◌/◌, ◌%◌, ◌==◌, ◌<◌, ◌≤◌, ◌^◌, min, nat_lt, Bool, true, false, if◌then◌else◌, List, [], ◌∷◌, ◌++◌, length, map, take, Option, Some, option_to_list, refl, subst, arith, length-append}
+use Rattle.std.proofs.{Math.Nat.{div-add-mod, mul-le-mul_left}, lemmas.Bool.{and_from, and_parts, lt-ltb, ltb-true}}
+use Rattle.std.proofs.{lemmas.List.length-take, lemmas.Option.{none-some, same_Some}}
+use Rattle.mh_model.specs.{declared.command.Control.Control, declared.command.Event.Event}
+use Rattle.mh_model.specs.{declared.config.Config.Config, declared.history.Version.TheVariants.Two}
+use Rattle.mh_model.specs.{declared.reply.Reply.Reply, Bound.most_quanta, Collector.Collector}
 use Rattle.mh_model.specs.Forms.{control_phrase, is_sayable, knows_control, u64}
 use Rattle.mh_model.specs.HistoryTexts.{is_event, is_measured, measured_step}
 use Rattle.mh_model.specs.Machine.{Machine, control_step, event_step, first_machine, floor_of, machine_after, quanta_left, quantum_run, report_on}
 use Rattle.mh_model.specs.Replies.{are_u64, is_reply}
 use Rattle.mh_model.specs.Trace.{C, Letter, M, collector_count, floor, least_mutator, least_of, lesser, mutator_count, stretches}
-use Rattle.mh_model.specs.World.{says}
-use Rattle.mh_model.specs.Limits.{quantum_overhead}
 use Rattle.mh_laws.proofs.costs.Quanta.{units-quantum}
-use Rattle.mh_run_laws.proofs.bounds.WithinEvents.{runs_within_events}
-use Rattle.mh_run_laws.proofs.forwarders.RunForwarders.{after-more, after-one}
+use Rattle.mh_run_laws.proofs.{bounds.WithinEvents.runs_within_events, forwarders.RunForwarders.{after-more, after-one}}
 use Rattle.mh_run_laws.proofs.trace.RunTraces.{quanta_within}
 use Rattle.mh_text_laws.proofs.round_trips.HeaderRoundTrips.{config_limits}
 use Rattle.mh_text_laws.proofs.run_histories.Dumps.{dump-in_range, stat-in_range}
@@ -43,8 +31,7 @@ collector-few (M ∷ letters) = omega (arith, collector-few letters)
 collector-few (C ∷ letters) = omega (arith, collector-few letters)
 
 lesser-first : (n : ℕ) (other : Option ℕ) → lesser n other ≤ n
-lesser-first n None = omega arith
-lesser-first n (Some other) = omega arith
+lesser-first n other = grind arith
 
 -- the least of the stretches is at most what the first of them has
 least-few : (window : ℕ) (letters : List Letter) (n : ℕ) → least_mutator window letters ≡ Some n → n ≤ length letters
@@ -71,15 +58,10 @@ floor-few : (m k window : ℕ) → floor m k window ≤ window
 floor-few m k window = floor-parts m k (window / (m + k)) (window % (m + k)) window (div-add-mod window (m + k))
 
 optional_in_range : (found : Option ℕ) → ((n : ℕ) → found ≡ Some n → n < 2 ^ 64) → are_u64 (option_to_list found) ≡ true
-optional_in_range None small = refl
-optional_in_range (Some n) small = and_from _ _ (lt-ltb n u64 (small n refl)) refl
+optional_in_range found small = grind (arith, and_from, lt-ltb)
 
 floor_in_range : (config : Config) (window : ℕ) → window < 2 ^ 64 → are_u64 (option_to_list (floor_of config window)) ≡ true
-floor_in_range config window below = go (config.every == 0)
-  where
-    go : (test : Bool) → are_u64 (option_to_list (if test then None else Some (floor config.every config.quantum window))) ≡ true
-    go true = refl
-    go false = and_from _ _ (lt-ltb (floor config.every config.quantum window) u64 (omega (arith, floor-few config.every config.quantum window, below))) refl
+floor_in_range config window below = grind (arith, and_from, lt-ltb, floor-few)
 
 -- Quanta -----------------------------------------------------------------------------------------
 
@@ -87,24 +69,14 @@ min-first : (a b : ℕ) → min a b ≤ a
 min-first a b = omega arith
 
 quanta-few : (config : Config) → most_quanta config ≤ 1000000
-quanta-few config = go (nat_lt quantum_overhead config.quantum)
-  where
-    go : (test : Bool) → (if test then min (most_steps config) (most_units config / (config.quantum - quantum_overhead) + 1) else most_steps config) ≤ 1000000
-    go true = omega (arith, min-first (most_steps config) (most_units config / (config.quantum - quantum_overhead) + 1), (config_limits config).pages_most)
-    go false = omega (arith, (config_limits config).pages_most)
+quanta-few config = grind (arith, min-first, config_limits)
 
 left-few : (config : Config) (collector : Collector) → quanta_left config collector ≤ 1000000
-left-few config collector = go (is_idle collector.phase)
-  where
-    go : (test : Bool) → (if test then 0 else most_quanta config - collector.quanta) ≤ 1000000
-    go true = omega arith
-    go false = omega (arith, quanta-few config)
+left-few config collector = grind (arith, quanta-few)
 
 spent_in_range : (machine : Machine) → is_reply Two (quantum_run machine).reply ≡ true
 unfolding quantum_run
-spent_in_range machine =
-    let units : ℕ = (quantum machine.heap.config machine.heap.collector).units in
-    and_from _ _ (lt-ltb units u64 (omega (arith, units-quantum machine.heap.config machine.heap.collector, (config_limits machine.heap.config).quantum_most))) refl
+spent_in_range machine = grind (arith, and_from, lt-ltb, units-quantum, config_limits)
 
 -- Runs -------------------------------------------------------------------------------------------
 
@@ -114,7 +86,7 @@ letters-few config events =
     omega (arith, (runs_within_events.after_events config events).letters, mul-le-mul_left (length events) (runs_within_events.few machine.heap.config))
 
 report_in_range : (config : Config) (before : List Event) (window : ℕ) → length before < 1000000 → window < 2 ^ 64
-    → let machine : Machine = machine_after (first_machine config) before in is_reply Two (reply.Report (report_on machine.heap.config machine.trace window)) ≡ true
+    → let machine : Machine = machine_after (first_machine config) before in is_reply Two (Reply.Report (report_on machine.heap.config machine.trace window)) ≡ true
 report_in_range config before window few below =
     let machine : Machine = machine_after (first_machine config) before in
     let report = report_on machine.heap.config machine.trace window in
@@ -136,27 +108,18 @@ report_in_range config before window few below =
 control-in_range : (config : Config) (before : List Event) (c : Control) → length before < 1000000 → is_sayable (control_phrase c) ≡ true
     → is_reply Two (control_step (machine_after (first_machine config) before) c).reply ≡ true
 unfolding control_step
-control-in_range config before control.Quantum few said = go (machine.heap.config.every == 0)
-  where
-    machine : Machine
-    machine = machine_after (first_machine config) before
-
-    go : (test : Bool) → is_reply Two (if test then quantum_run machine else says (reply.Spent 0 machine.heap.collector.phase) machine).reply ≡ true
-    go true = spent_in_range machine
-    go false = refl
-control-in_range config before control.Start few said = refl
-control-in_range config before control.Stat few said = stat-in_range config before few
-control-in_range config before control.Dump few said = dump-in_range config before few
-control-in_range config before control.Left few said =
-    let machine : Machine = machine_after (first_machine config) before in
-    and_from _ _ (lt-ltb (quanta_left machine.heap.config machine.heap.collector) u64 (omega (arith, left-few machine.heap.config machine.heap.collector))) refl
-control-in_range config before (control.Report window) few said = report_in_range config before window few (ltb-true window u64 (and_parts _ _ said).0)
+control-in_range config before Control.Quantum few said = grind (arith, spent_in_range)
+control-in_range config before Control.Start few said = refl
+control-in_range config before Control.Stat few said = stat-in_range config before few
+control-in_range config before Control.Dump few said = dump-in_range config before few
+control-in_range config before Control.Left few said = grind (arith, and_from, lt-ltb, left-few)
+control-in_range config before (Control.Report window) few said = report_in_range config before window few (ltb-true window u64 (and_parts _ _ said).0)
 
 reply-in_range : (config : Config) (before : List Event) (e : Event) → list_all (is_event Two) before ≡ true → is_event Two e ≡ true → length before < 1000000
     → is_reply Two (event_step (machine_after (first_machine config) before) e).reply ≡ true
 unfolding event_step
-reply-in_range config before (event.Session who c) known here few = command-in_range config before who c known
-reply-in_range config before (event.Control c) known here few = control-in_range config before c few (and_parts (knows_control Two c) (is_sayable (control_phrase c)) here).1
+reply-in_range config before (Event.Session who c) known here few = command-in_range config before who c known
+reply-in_range config before (Event.Control c) known here few = control-in_range config before c few (and_parts (knows_control Two c) (is_sayable (control_phrase c)) here).1
 
 -- the machine after one event more
 pub step-after : (config : Config) (before : List Event) (e : Event) → machine_after (first_machine config) (before ++ e ∷ []) ≡ (event_step (machine_after (first_machine config) before) e).state
@@ -170,8 +133,7 @@ units-in_range config before e few =
     let after : Machine = (event_step machine e).state in
     let letters : length after.trace.letters ≤ length (before ++ e ∷ []) * 1003661 = subst (λ (m : Machine). length m.trace.letters ≤ length (before ++ e ∷ []) * 1003661) (step-after config before e) (letters-few config (before ++ e ∷ [])) in
     let count = length-append before (e ∷ []) in
-    and_from _ _ (lt-ltb (mutator_count after.trace.letters - mutator_count machine.trace.letters) u64 (omega (arith, mutator-few after.trace.letters, letters, count)))
-    (and_from _ _ (lt-ltb (collector_count after.trace.letters - collector_count machine.trace.letters) u64 (omega (arith, collector-few after.trace.letters, letters, count))) refl)
+    grind (arith, and_from, lt-ltb, mutator-few, collector-few)
 
 -- an entry of the record of a run
 pub measured-in_range : (config : Config) (before : List Event) (e : Event) → list_all (is_event Two) before ≡ true → is_event Two e ≡ true → length before < 1000000

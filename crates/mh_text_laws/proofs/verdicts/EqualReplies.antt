@@ -1,14 +1,10 @@
 -- A reply in range is another, or it isn't: their words tell.
 use Rattle.std.proofs.Common.{◌≡◌, ◌∙◌, ◌⊎◌, inl, inr, Bool, true, false, List, [], ◌∷◌, ap, sym, refl, subst}
-use Rattle.std.proofs.lemmas.Bool.{and_from, both_ways}
-use Rattle.std.proofs.lemmas.Option.{same_Some}
-use Rattle.mh_model.specs.declared.reply.Reply.{Reply}
-use Rattle.mh_model.specs.Bytes.{Text}
-use Rattle.mh_model.specs.declared.history.Version.{Version}
+use Rattle.std.proofs.{lemmas.Bool.{and_from, both_ways}, lemmas.Option.same_Some}
+use Rattle.mh_model.specs.{declared.reply.Reply.Reply, Bytes.Text, declared.history.Version.Version}
 use Rattle.mh_model.specs.Replies.{reply_words, reply_of, is_reply, are_texts}
 use Rattle.mh_model.proofs.TextLemmas.{text_itself}
-use Rattle.mh_text_laws.proofs.round_trips.ReplyRoundTrips.{reply_of-words}
-use Rattle.mh_text_laws.proofs.rewritings.FormsWrittenAgain.{texts_are}
+use Rattle.mh_text_laws.proofs.{round_trips.ReplyRoundTrips.reply_of-words, rewritings.FormsWrittenAgain.texts_are}
 
 are_texts-themselves : (texts : List Text) → are_texts texts texts ≡ true
 are_texts-themselves [] = refl

@@ -1,17 +1,12 @@
 -- Legal histories of both versions keep their rule step by step.
-use Rattle.std.proofs.Common.{◌≡◌, ◌∙◌, ◌⊎◌, inl, inr, ℕ, true, List, [], ◌∷◌, ap, refl}
-use Rattle.std.proofs.lemmas.Bool.{and_parts, cases_eq}
-use Rattle.mh_model.specs.declared.config.Config.{Config}
-use Rattle.mh_model.specs.declared.reply.Reply.{Reply}
-use Rattle.mh_model.specs.declared.history.Entry.{Entry}
+use Rattle.std.proofs.{Common.{◌≡◌, ◌⊎◌, ℕ, true, List, [], ◌∷◌, refl, arith}, lemmas.Bool.{and_parts, cases_eq}}
+use Rattle.mh_model.specs.{declared.config.Config.Config, declared.reply.Reply.Reply, declared.history.Entry.Entry}
 use Rattle.mh_model.specs.declared.history.Version.TheVariants.{One, Two}
-use Rattle.mh_model.specs.Machine.{Machine, first_machine, event_step, machine_replies}
-use Rattle.mh_model.specs.Limits.{most_entries}
+use Rattle.mh_model.specs.{Machine.{Machine, first_machine, event_step, machine_replies}, Limits.most_entries}
 use Rattle.mh_model.specs.History.{IsLegal, events_of, replies_of}
 use Rattle.mh_model.specs.HistoryTexts.{is_entry, is_measured, measured_events, measured_step, machine_record, IsLegalRecord}
 use Rattle.mh_model.specs.declared.history.Measured.{Measured}
-use Rattle.mh_text_laws.proofs.ListLemmas.{first_same, others_same}
-use Rattle.mh_text_laws.proofs.verdicts.EqualReplies.{same_or_other}
+use Rattle.mh_text_laws.proofs.{ListLemmas.{first_same, others_same}, verdicts.EqualReplies.same_or_other}
 use Rattle.mh_text_laws.proofs.verdicts.StepRules.{Follows, IsRule}
 
 -- Version 1 --------------------------------------------------------------------------------------
@@ -29,10 +24,7 @@ answered_or_not machine e h = same_or_other One e.reply (event_step machine e.ev
 replies-follow : (machine : Machine) (entries : List Entry) → Follows IsAnswered after_entry machine entries → replies_of entries ≡ machine_replies machine (events_of entries)
 unfolding machine_replies
 replies-follow machine [] h = refl
-replies-follow machine (e ∷ entries) h =
-    let here : e.reply ≡ (event_step machine e.event).reply = h.0 in
-    let later = replies-follow (after_entry machine e) entries h.1 in
-    cc
+replies-follow machine (e ∷ entries) h = grind (arith, replies-follow (after_entry machine e) entries h.1)
 
 follow-replies : (machine : Machine) (entries : List Entry) → replies_of entries ≡ machine_replies machine (events_of entries) → Follows IsAnswered after_entry machine entries
 unfolding machine_replies
@@ -41,11 +33,7 @@ follow-replies machine (e ∷ entries) h = (first_same h, follow-replies (after_
 
 pub legal_rule : (config : Config) → IsRule IsAnswered after_entry (first_machine config) (IsLegal config)
 unfolding most_entries
-legal_rule config = record {
-  lawful = λ entries few follows. record { few = few; replies = replies-follow (first_machine config) entries follows };
-  few = λ entries legal. legal.few;
-  follows = λ entries legal. follow-replies (first_machine config) entries legal.replies;
-}
+legal_rule config = grind (arith, replies-follow, follow-replies)
 
 -- Version 2 --------------------------------------------------------------------------------------
 
@@ -60,16 +48,12 @@ abbrev with_parts : Measured → Reply → ℕ → ℕ → Measured
 with_parts m reply a b = record { entry = record { event = m.entry.event; reply = reply }; mutator = a; collector = b }
 
 parts_same : (m : Measured) (reply : Reply) (a b : ℕ) → m.entry.reply ≡ reply → m.mutator ≡ a → m.collector ≡ b → m ≡ with_parts m reply a b
-parts_same m reply a b p q s =
-    ap (λ (r : Reply). with_parts m r m.mutator m.collector) p ∙ ap (λ (n : ℕ). with_parts m reply n m.collector) q ∙ ap (λ (n : ℕ). with_parts m reply a n) s
+parts_same m reply a b p q s = grind arith
 
 parts_or_not : (m : Measured) (reply : Reply) (a b : ℕ) → (m.entry.reply ≡ reply) ⊎ (m.entry.reply ≡ reply → ⊥) → (m.mutator ≡ a) ⊎ (m.mutator ≡ a → ⊥)
     → (m.collector ≡ b) ⊎ (m.collector ≡ b → ⊥)
     → (m ≡ with_parts m reply a b) ⊎ (m ≡ with_parts m reply a b → ⊥)
-parts_or_not m reply a b (inl p) (inl q) (inl s) = inl (parts_same m reply a b p q s)
-parts_or_not m reply a b (inr other) second third = inr (λ same. other (ap (λ (x : Measured). x.entry.reply) same))
-parts_or_not m reply a b (inl p) (inr other) third = inr (λ same. other (ap (λ (x : Measured). x.mutator) same))
-parts_or_not m reply a b (inl p) (inl q) (inr other) = inr (λ same. other (ap (λ (x : Measured). x.collector) same))
+parts_or_not m reply a b is second third = grind (arith, parts_same)
 
 pub right_or_not : (machine : Machine) (m : Measured) → is_measured m ≡ true → IsRight machine m ⊎ (IsRight machine m → ⊥)
 right_or_not machine m h =
@@ -80,10 +64,7 @@ right_or_not machine m h =
 record-follows : (machine : Machine) (entries : List Measured) → Follows IsRight after_measured machine entries → entries ≡ machine_record machine (measured_events entries)
 unfolding machine_record
 record-follows machine [] h = refl
-record-follows machine (m ∷ entries) h =
-    let here : m ≡ measured_step machine m.entry.event (event_step machine m.entry.event) = h.0 in
-    let later = record-follows (after_measured machine m) entries h.1 in
-    cc
+record-follows machine (m ∷ entries) h = grind (arith, record-follows (after_measured machine m) entries h.1)
 
 follow-record : (machine : Machine) (entries : List Measured) → entries ≡ machine_record machine (measured_events entries) → Follows IsRight after_measured machine entries
 unfolding machine_record
@@ -92,8 +73,4 @@ follow-record machine (m ∷ entries) h = (first_same h, follow-record (after_me
 
 pub record_rule : (config : Config) → IsRule IsRight after_measured (first_machine config) (IsLegalRecord config)
 unfolding most_entries
-record_rule config = record {
-  lawful = λ entries few follows. record { few = few; same = record-follows (first_machine config) entries follows };
-  few = λ entries legal. legal.few;
-  follows = λ entries legal. follow-record (first_machine config) entries legal.same;
-}
+record_rule config = grind (arith, record-follows, follow-record)

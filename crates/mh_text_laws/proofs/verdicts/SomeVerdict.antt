@@ -1,16 +1,11 @@
 -- A text has a verdict.
 use Rattle.std.proofs.Common.{◌≡◌, true, List, refl}
 use Rattle.std.specs.List.{list_all}
-use Rattle.mh_model.specs.declared.config.Config.{Config}
-use Rattle.mh_model.specs.declared.history.Entry.{Entry}
-use Rattle.mh_model.specs.Bytes.{Text}
-use Rattle.mh_model.specs.declared.history.Version.TheVariants.{One}
-use Rattle.mh_model.specs.Script.{Reading, BadLine, Means}
-use Rattle.mh_model.specs.Machine.{first_machine}
-use Rattle.mh_model.specs.History.{IsLegal}
+use Rattle.mh_model.specs.{declared.config.Config.Config, declared.history.Entry.Entry, Bytes.Text}
+use Rattle.mh_model.specs.{declared.history.Version.TheVariants.One, Script.{Reading, BadLine, Means}}
+use Rattle.mh_model.specs.{Machine.first_machine, History.IsLegal}
 use Rattle.mh_model.specs.HistoryTexts.{Recorded, is_entry, is_measured, history_reading, recorded_reading, IsLegalRecord, IsChecked, IsAudited}
-use Rattle.mh_model.specs.declared.history.Verdict.{Verdict}
-use Rattle.mh_model.specs.declared.history.Verdict.TheVariants.{Refused}
+use Rattle.mh_model.specs.{declared.history.Verdict.Verdict, declared.history.Verdict.TheVariants.Refused}
 use Rattle.mh_text_laws.proofs.rewritings.HistoriesWrittenAgain.{histories-again, records-again}
 use Rattle.mh_text_laws.proofs.verdicts.StepRules.{follows_or_fails, some_verdict}
 use Rattle.mh_text_laws.proofs.verdicts.LegalHistories.{IsAnswered, after_entry, answered_or_not, legal_rule, IsRight, after_measured, right_or_not, record_rule}

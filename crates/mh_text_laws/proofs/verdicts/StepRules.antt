@@ -1,11 +1,8 @@
 -- Rules that a list keeps step by step: each element fits a state and leads to the next, and there are 1,000,000 at most.
-use Rattle.std.proofs.Common.{◌≡◌, ◌⊎◌, inl, inr, ℕ, zero, suc, ◌-◌, ◌<◌, ◌≤◌, Bool, true, List, [], ◌∷◌, length, take, refl, subst, arith}
+use Rattle.std.proofs.Common.{◌≡◌, ◌⊎◌, inl, inr, ℕ, suc, ◌-◌, ◌<◌, ◌≤◌, Bool, true, List, [], ◌∷◌, length, take, refl, subst, arith}
+use Rattle.std.proofs.{lemmas.Bool.{and_parts, cases_lt}, lemmas.List.{length-take, length-take-le, take-take}}
 use Rattle.std.specs.List.{list_all}
-use Rattle.std.proofs.lemmas.Bool.{and_parts, cases_lt}
-use Rattle.std.proofs.lemmas.List.{length-take, length-take-le, take-take}
-use Rattle.mh_model.specs.History.{IsFirstBadOf}
-use Rattle.mh_model.specs.HistoryTexts.{IsJudged}
-use Rattle.mh_model.specs.declared.history.Verdict.{Verdict}
+use Rattle.mh_model.specs.{History.IsFirstBadOf, HistoryTexts.IsJudged, declared.history.Verdict.Verdict}
 use Rattle.mh_model.specs.declared.history.Verdict.TheVariants.{Legal, FirstBad}
 
 abbrev pub Follows : {S X : Type 0} → (S → X → Type 0) → (S → X → S) → S → List X → Type 0
@@ -31,9 +28,8 @@ follows_or_fails {S} {X} Fits next passes decide state (x ∷ xs) h =
       by (inr other) rest = inr (record { place = 0; within = omega arith; before = tt; bad = λ follows. other follows.0 })
 
 follows-take : {S X : Type 0} (Fits : S → X → Type 0) (next : S → X → S) (n : ℕ) (state : S) (xs : List X) → Follows Fits next state xs → Follows Fits next state (take n xs)
-follows-take Fits next zero state xs h = tt
-follows-take Fits next (suc n) state [] h = tt
 follows-take Fits next (suc n) state (x ∷ xs) h = (h.0, follows-take Fits next n (next state x) xs h.1)
+follows-take Fits next n state xs h = tt
 
 -- what is lawful is at most 1,000,000 elements, which follow
 pub record IsRule {S X : Type 0} (Fits : S → X → Type 0) (next : S → X → S) (state : S) (Lawful : List X → Type 0) : Type 0 where

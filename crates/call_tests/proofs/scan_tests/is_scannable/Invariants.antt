@@ -1,6 +1,5 @@
 use Rattle.std.proofs.Common.{ℕ, ◌<◌}
-use Rattle.mh_model.specs.Pages.{Leads}
-use Rattle.mh_model.specs.Table.{reference_at}
+use Rattle.mh_model.specs.{Pages.Leads, Table.reference_at}
 use Rattle.call_tests.proofs.scan_tests.is_scannable.Given as goal
 
 abbrev pub invariant-loop-index : goal.invariant-loop-index

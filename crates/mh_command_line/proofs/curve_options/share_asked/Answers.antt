@@ -1,8 +1,7 @@
 use Rattle.std.proofs.Common.{◌≡◌, ◌∙◌, Some, is_some, codes}
 use Rattle.clap.proofs.WalkLemmas.{one_text-rows}
 use Rattle.clap.specs.Words.{Text, found_of, one_of, rows_of}
-use Rattle.mh_command_line.specs.Shares.{ReadsShare, asked_share, shared_of}
-use Rattle.mh_command_line.specs.declared.share.AskedShare.{AskedShare}
+use Rattle.mh_command_line.specs.{Shares.{ReadsShare, asked_share, shared_of}, declared.share.AskedShare.AskedShare}
 use Rattle.mh_command_line.proofs.ReadingLemmas.{no-text, share-can, share-cannot, text-read}
 use Rattle.mh_command_line.proofs.curve_options.share_asked.Goals as goal
 

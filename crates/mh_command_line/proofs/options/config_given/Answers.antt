@@ -1,5 +1,4 @@
-use Rattle.std.proofs.Common.{sym}
-use Rattle.std.proofs.lemmas.Bool.{false≢true}
+use Rattle.std.proofs.{Common.sym, lemmas.Bool.false≢true}
 use Rattle.mh_command_line.proofs.NumberLemmas.{lies_outside, makes}
 use Rattle.mh_command_line.proofs.options.config_given.Goals as goal
 

@@ -1,8 +1,7 @@
 use Rattle.std.proofs.Common.{◌∙◌, sym}
 use Rattle.clap.proofs.WalkLemmas.{one_text-rows}
 use Rattle.clap.specs.Words.{found_of, one_of, rows_of}
-use Rattle.mh_command_line.proofs.NumberLemmas.{number-held, number-lacking}
-use Rattle.mh_command_line.proofs.ReadingLemmas.{is_given, not_given}
+use Rattle.mh_command_line.proofs.{NumberLemmas.{number-held, number-lacking}, ReadingLemmas.{is_given, not_given}}
 use Rattle.mh_command_line.proofs.options.number_given.Goals as goal
 
 pub returns-in-Some-clause-number : goal.returns-in-Some-clause-number

@@ -1,5 +1,4 @@
-use Rattle.clap.specs.Words.{found_of, rows_of}
-use Rattle.clap.specs.declared.parser.matches.ArgMatches.TheViews.{out-ArgMatches}
+use Rattle.clap.specs.{Words.{found_of, rows_of}, declared.parser.matches.ArgMatches.TheViews.out-ArgMatches}
 use Rattle.mh_command_line.proofs.OrderLemmas.{takes_named}
 use Rattle.mh_command_line.proofs.order.order_of.Goals as goal
 

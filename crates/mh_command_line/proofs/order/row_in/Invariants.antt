@@ -1,6 +1,5 @@
 use Rattle.std.proofs.Common.{◌≡◌, None, take}
-use Rattle.std.specs.Prelude.{find}
-use Rattle.std.specs.Str.{bytes_eq}
+use Rattle.std.specs.{Prelude.find, Str.bytes_eq}
 use Rattle.mh_command_line.proofs.order.row_in.Given as goal
 
 abbrev pub invariant-loop-row : goal.invariant-loop-row

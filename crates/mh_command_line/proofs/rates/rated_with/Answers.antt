@@ -1,5 +1,4 @@
-use Rattle.std.proofs.Common.{◌≤◌}
-use Rattle.std.proofs.lemmas.List.Elements.{All-set}
+use Rattle.std.proofs.{Common.◌≤◌, lemmas.List.Elements.All-set}
 use Rattle.mh_command_line.proofs.rates.rated_with.Goals as goal
 
 pub invariant_of-result-clause-few : goal.invariant_of-result-clause-few

@@ -1,9 +1,7 @@
-use Rattle.std.proofs.Common.{◌≡◌, ◌∙◌, Some, ap, is_some, codes, sym}
-use Rattle.std.proofs.lemmas.Bool.{false≢true}
+use Rattle.std.proofs.{Common.{◌≡◌, ◌∙◌, Some, ap, is_some, codes, sym}, lemmas.Bool.false≢true}
 use Rattle.clap.proofs.WalkLemmas.{one_text-rows}
 use Rattle.clap.specs.Words.{Text, found_of, one_of, rows_of}
-use Rattle.mh_command_line.specs.Rates.{ReadsRates, rated_of, rates_in}
-use Rattle.mh_command_line.specs.declared.rates.AskedRates.{AskedRates}
+use Rattle.mh_command_line.specs.{Rates.{ReadsRates, rated_of, rates_in}, declared.rates.AskedRates.AskedRates}
 use Rattle.mh_command_line.proofs.AskedLemmas.{rate_of_heap, rates_kept}
 use Rattle.mh_command_line.proofs.ReadingLemmas.{no-text, rates-can, rates-cannot, text-read}
 use Rattle.mh_command_line.proofs.size_options.rates_asked.Goals as goal

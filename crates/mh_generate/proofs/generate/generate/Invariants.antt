@@ -7,8 +7,7 @@ use Rattle.mh_generate.proofs.generate.generate.Given as goal
 
 abbrev pub invariant-loop-done : goal.invariant-loop-done
 invariant-loop-done g l = record {
-  written : HasWritten l.options l.done l.chooser.names.named (world_of l.chooser.along.heap) (g.W.Sink.written l.fn.sink) (g.W.Sink.written l.sink) (string_bytes l.text);
+  written : HasWritten l.options l.done l.chooser.names.named (world_of l.chooser.along.heap) (g.W.Sink.device l.fn.sink) (g.W.Sink.device l.sink) (string_bytes l.text);
   most : l.chooser.names.most ≡ most_of l.options;
   few : births (world_of l.chooser.along.heap) ≤ l.done;
-  failures : g.W.Sink.failures l.sink ≡ g.W.Sink.failures l.fn.sink;
 }

@@ -1,5 +1,4 @@
-use Rattle.std.proofs.Common.{refl, arith}
-use Rattle.std.proofs.lemmas.Bool.{ltb-true}
+use Rattle.std.proofs.{Common.{refl, arith}, lemmas.Bool.ltb-true}
 use Rattle.mh_model.specs.Classes.{is_class_size}
 use Rattle.mh_groups.proofs.RoomLemmas.{no_room}
 use Rattle.mh_groups.proofs.group.lacks_room.Goals as goal

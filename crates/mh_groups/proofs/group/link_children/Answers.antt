@@ -1,5 +1,4 @@
-use Rattle.std.proofs.Common.{◌≡◌, ◌<◌, IsSome, length, get_or, sym, subst, add-one, arith}
-use Rattle.std.proofs.lemmas.List.{get_or_read}
+use Rattle.std.proofs.{Common.{◌≡◌, ◌<◌, IsSome, length, get_or, sym, subst, add-one, arith}, lemmas.List.get_or_read}
 use Rattle.mh_model.specs.Pages.{block_at}
 use Rattle.mh_groups.proofs.LinkLemmas.{no_child, child_within, child_there, one_child}
 use Rattle.mh_groups.proofs.group.link_children.Goals as goal

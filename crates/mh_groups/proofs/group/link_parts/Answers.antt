@@ -1,5 +1,4 @@
-use Rattle.std.proofs.Common.{◌≡◌, ◌+◌, ◌-◌, length, get_or, None, sym, ◌∙◌, add-one, arith}
-use Rattle.std.proofs.lemmas.List.{get_or_read}
+use Rattle.std.proofs.{Common.{◌≡◌, ◌+◌, ◌-◌, length, get_or, None, sym, ◌∙◌, add-one, arith}, lemmas.List.get_or_read}
 use Rattle.mh_groups.proofs.LinkLemmas.{none_linked, children_count, children_linked, rest_linked}
 use Rattle.mh_groups.proofs.group.link_parts.Goals as goal
 

@@ -1,7 +1,5 @@
-use Rattle.std.proofs.Common.{◌≡◌, ◌<◌, length, sym, arith}
-use Rattle.std.proofs.lemmas.Result.{IfOk-weaker, on_err_weaker}
-use Rattle.mh_groups.proofs.ChildLemmas.{have_children, only_part}
-use Rattle.mh_groups.proofs.GroupLemmas.{one_group, no_group, unlinked-front}
+use Rattle.std.proofs.{Common.{◌≡◌, ◌<◌, length, sym, arith}, lemmas.Result.{IfOk-weaker, on_err_weaker}}
+use Rattle.mh_groups.proofs.{ChildLemmas.{have_children, only_part}, GroupLemmas.{one_group, no_group, unlinked-front}}
 use Rattle.mh_groups.proofs.TellLemmas.{parts-there}
 use Rattle.mh_groups.proofs.group.make_group.Goals as goal
 

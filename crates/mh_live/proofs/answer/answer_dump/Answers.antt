@@ -1,8 +1,8 @@
 use Rattle.std.proofs.Common.{rules, ap, Err}
 use Rattle.mh_live.specs.Answers.{Starved}
 use Rattle.mh_live.proofs.LineTurns.{dump_done, undone}
-use Rattle.mh_live.proofs.answer.answer_dump.Goals as goal
 use Rattle.mh_live.proofs.answer.answer_dump.Goals.{in-Ok, in-Err+in_ok-not_done-in-Err}
+use Rattle.mh_live.proofs.answer.answer_dump.Goals as goal
 
 pub returns-then-is_err : goal.returns-then-is_err
 returns-then-is_err g c = Starved tt (search rules) (search rules)

@@ -1,7 +1,5 @@
-use Rattle.std.proofs.Common.{rules, ◌≡◌, Decides}
-use Rattle.std.proofs.lemmas.Slice.Eq.{slice_eq-Decides}
-use Rattle.mh_model.specs.declared.dump.DumpItem.{DumpItem}
-use Rattle.mh_model.specs.declared.dump.DumpItem.TheVariants.{Page, Block, Forwarder}
+use Rattle.std.proofs.{Common.{rules, ◌≡◌, Decides}, lemmas.Slice.Eq.slice_eq-Decides}
+use Rattle.mh_model.specs.{declared.dump.DumpItem.DumpItem, declared.dump.DumpItem.TheVariants.{Page, Block, Forwarder}}
 use Rattle.mh_model.specs.contracts.dump.DumpItemPartialEq.TheImpl.{eq-value}
 use Rattle.mh_machine.proofs.same.is_same_dump.Goals as goal
 

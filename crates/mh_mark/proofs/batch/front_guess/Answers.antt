@@ -1,5 +1,4 @@
-use Rattle.std.proofs.Common.{◌≤◌, arith}
-use Rattle.std.proofs.Math.Nat.{mul-le-mul_left}
+use Rattle.std.proofs.{Common.{◌≤◌, arith}, Math.Nat.mul-le-mul_left}
 use Rattle.mh_mark.proofs.FrontLemmas.{in_at}
 use Rattle.mh_mark.proofs.batch.front_guess.Goals as goal
 

@@ -1,5 +1,4 @@
-use Rattle.std.proofs.Common.{◌∙◌, ap, refl}
-use Rattle.std.proofs.lemmas.List.{get_or_default}
+use Rattle.std.proofs.{Common.{◌∙◌, ap, refl}, lemmas.List.get_or_default}
 use Rattle.mh_mark.proofs.KeptLemmas.{kept-refl, blocks-goes, blocks-skips, settled-at}
 use Rattle.mh_mark.proofs.batch.mark_unsettled.Goals as goal
 

@@ -1,10 +1,8 @@
 use Rattle.std.proofs.Common.{◌<◌, length, refl, ap, ◌∙◌, arith}
 use Rattle.mh_model.specs.Table.{references_at}
 use Rattle.mh_grey.specs.Queue.{Queue}
-use Rattle.mh_mark.proofs.ReferenceLemmas.{same_address}
-use Rattle.mh_mark.proofs.MarkLemmas.{marking-starts, marking-goes_on}
-use Rattle.mh_mark.proofs.KeptLemmas.{kept-refl, marked-kept}
-use Rattle.mh_mark.proofs.ToldLemmas.{leads-reference}
+use Rattle.mh_mark.proofs.{ReferenceLemmas.same_address, MarkLemmas.{marking-starts, marking-goes_on}}
+use Rattle.mh_mark.proofs.{KeptLemmas.{kept-refl, marked-kept}, ToldLemmas.leads-reference}
 use Rattle.mh_mark.proofs.mark.mark_references.Goals as goal
 
 pub mark_edge-requires-clause-at : goal.mark_edge-requires-clause-at

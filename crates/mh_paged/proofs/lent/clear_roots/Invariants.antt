@@ -1,6 +1,5 @@
 use Rattle.std.proofs.Common.{◌≡◌, ◌+◌, ◌-◌}
-use Rattle.mh_model.specs.Mutator.{with_roots_cleared}
-use Rattle.mh_model.specs.Invariant.{IsSteady}
+use Rattle.mh_model.specs.{Mutator.with_roots_cleared, Invariant.IsSteady}
 use Rattle.mh_paged.proofs.lent.clear_roots.Given as goal
 
 abbrev pub invariant-loop-slot : goal.invariant-loop-slot

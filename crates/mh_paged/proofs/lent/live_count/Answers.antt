@@ -1,7 +1,5 @@
-use Rattle.std.proofs.Common.{refl, not, arith}
-use Rattle.std.proofs.lemmas.List.Filters.{length-filter_both}
-use Rattle.mh_model.specs.Table.{Block, is_forwarder}
-use Rattle.mh_model.specs.Machine.{blocks_of}
+use Rattle.std.proofs.{Common.{refl, not, arith}, lemmas.List.Filters.length-filter_both}
+use Rattle.mh_model.specs.{Table.{Block, is_forwarder}, Machine.blocks_of}
 use Rattle.mh_paged.proofs.lent.live_count.Goals as goal
 
 pub overflow_sub-result : goal.overflow_sub-result

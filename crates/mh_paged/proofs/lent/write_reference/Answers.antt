@@ -1,6 +1,5 @@
 use Rattle.std.proofs.Common.{◌<◌, length, sym, ap, ◌∙◌, subst}
-use Rattle.mh_model.specs.Pages.{Leads}
-use Rattle.mh_model.specs.Table.{Position, references_at}
+use Rattle.mh_model.specs.{Pages.Leads, Table.{Position, references_at}}
 use Rattle.mh_paged.proofs.FieldLemmas.{leads-stays, stays-before_field}
 use Rattle.mh_paged.proofs.lent.write_reference.Goals as goal
 

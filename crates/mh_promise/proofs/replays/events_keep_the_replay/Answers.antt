@@ -1,10 +1,7 @@
 use Rattle.std.proofs.Common.{List, [], ◌∷◌, ◌++◌, refl, sym, ap, ◌∙◌}
-use Rattle.mh_model.specs.declared.command.Event.{Event}
-use Rattle.mh_model.specs.declared.config.Config.{Config}
-use Rattle.mh_model.specs.declared.reply.Reply.{Reply}
+use Rattle.mh_model.specs.{declared.command.Event.Event, declared.config.Config.Config, declared.reply.Reply.Reply}
 use Rattle.mh_model.specs.Machine.{Machine, first_machine, event_step, machine_replies}
-use Rattle.mh_promise.specs.Runs.{outcome_of, IsTheMachines}
-use Rattle.mh_promise.specs.Replays.{IsReplay}
+use Rattle.mh_promise.specs.{Runs.{outcome_of, IsTheMachines}, Replays.IsReplay}
 use Rattle.mh_run_laws.proofs.runs.RunsByEvents.{no-events, no-replies}
 use Rattle.mh_promise.proofs.replays.events_keep_the_replay.Goals as goal
 

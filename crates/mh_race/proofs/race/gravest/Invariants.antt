@@ -1,6 +1,5 @@
 use Rattle.std.proofs.Common.{◌≡◌, ◌<◌, ℕ, Some, None, get_or}
-use Rattle.mh_service.specs.OfState.Stop.{Stop}
-use Rattle.mh_service.specs.OfState.Stop.TheVariants.{NoMemory}
+use Rattle.mh_machine.specs.declared.machine.Stop.{Stop, TheVariants.NoMemory}
 use Rattle.mh_race.specs.Racing.{SomeSeatStopped}
 use Rattle.mh_race.proofs.race.gravest.Given as goal
 

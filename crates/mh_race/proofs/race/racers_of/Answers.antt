@@ -1,5 +1,4 @@
-use Rattle.std.proofs.Common.{arith, ◌∷◌, []}
-use Rattle.std.proofs.lemmas.List.{length-append}
+use Rattle.std.proofs.{Common.{arith, ◌∷◌, []}, lemmas.List.length-append}
 use Rattle.mh_race.proofs.NewRacers.{last-new, fresh-push}
 use Rattle.mh_race.proofs.race.racers_of.Goals as goal
 

@@ -1,6 +1,6 @@
 use Rattle.std.proofs.Common.{rules, ◌≡◌, ◌<◌, ◌∷◌, ◌++◌, List, [], None, get_or, map, ap, append_assoc, sym, subst, ◌∙◌}
 use Rattle.std.proofs.lemmas.List.{map-append}
-use Rattle.mh_service.specs.OfLock.Seats.{LockSeatView}
+use Rattle.mh_lock.specs.Seats.{LockSeatView}
 use Rattle.mh_model.specs.declared.history.Entry.{Entry}
 use Rattle.mh_race.specs.declared.racer.Racer.{Racer}
 use Rattle.mh_race.proofs.RunSeats.{noted-more}

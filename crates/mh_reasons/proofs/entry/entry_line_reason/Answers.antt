@@ -1,5 +1,4 @@
-use Rattle.std.proofs.Common.{◌≡◌, ◌≢◌, ◌==◌, [], false, length, sym, ap, arith}
-use Rattle.std.proofs.lemmas.Bool.Decides.{nat_tests}
+use Rattle.std.proofs.{Common.{◌≡◌, ◌≢◌, ◌==◌, [], false, length, sym, ap, arith}, lemmas.Bool.Decides.nat_tests}
 use Rattle.mh_reasons.proofs.EntryLemmas.{of_one, of_two}
 use Rattle.mh_reasons.proofs.entry.entry_line_reason.Goals as goal
 

@@ -1,6 +1,5 @@
 use Rattle.std.proofs.Common.{◌≡◌, Some, None, option_and_then, sym, ap, ◌∙◌}
-use Rattle.mh_model.specs.Bytes.{numbers}
-use Rattle.mh_model.specs.HistoryTexts.{header_by}
+use Rattle.mh_model.specs.{Bytes.numbers, HistoryTexts.header_by}
 use Rattle.mh_text.specs.Words.{few_numbers}
 use Rattle.mh_reasons.proofs.HeaderLemmas.{four_left, given_outside}
 use Rattle.mh_reasons.proofs.header.given_reason.Goals as goal

@@ -1,8 +1,6 @@
 use Rattle.std.proofs.Common.{◌∙◌, length, drop, ap, refl, arith}
-use Rattle.mh_report.specs.Segments.{letter_of}
-use Rattle.mh_report.specs.Points.{after}
-use Rattle.mh_report.proofs.WalkLemmas.{drop_alike, length-alike}
-use Rattle.mh_report.proofs.PointLemmas.{after_first, inside_first}
+use Rattle.mh_report.specs.{Segments.letter_of, Points.after}
+use Rattle.mh_report.proofs.{WalkLemmas.{drop_alike, length-alike}, PointLemmas.{after_first, inside_first}}
 use Rattle.mh_report.proofs.slide.point_after.Goals as goal
 
 pub loop-left-init : goal.loop-left-init

@@ -1,8 +1,6 @@
 use Rattle.std.proofs.Common.{◌≡◌, ◌∙◌, ◌++◌, [], length, ap, refl, sym, subst, append-nil, append_assoc, arith}
 use Rattle.std.proofs.lemmas.List.{length-drop}
-use Rattle.mh_report.specs.Segments.{letter_of, letters_of}
-use Rattle.mh_report.specs.Slides.{passings, passings_of}
-use Rattle.mh_report.specs.Points.{after}
+use Rattle.mh_report.specs.{Segments.{letter_of, letters_of}, Slides.{passings, passings_of}, Points.after}
 use Rattle.mh_report.proofs.WalkLemmas.{length-alike, no_letters}
 use Rattle.mh_report.proofs.slide.slide.Goals as goal
 

@@ -1,9 +1,6 @@
 use Rattle.std.proofs.Common.{◌≡◌, ◌∙◌, ◌-◌, [], ◌++◌, replicate, length, ap, refl, sym, append_assoc, arith}
-use Rattle.mh_report.specs.Segments.{letter_of}
-use Rattle.mh_report.specs.Slides.{alike, passings}
-use Rattle.mh_report.specs.Points.{after}
-use Rattle.mh_report.proofs.WalkLemmas.{length-alike}
-use Rattle.mh_report.proofs.SlideLemmas.{passings_some}
+use Rattle.mh_report.specs.{Segments.letter_of, Slides.{alike, passings}, Points.after}
+use Rattle.mh_report.proofs.{WalkLemmas.length-alike, SlideLemmas.passings_some}
 use Rattle.mh_report.proofs.slide.slide_over.Goals as goal
 
 pub loop-left-init : goal.loop-left-init

@@ -1,8 +1,6 @@
 use Rattle.std.proofs.Common.{◌≡◌, ◌+◌, ◌-◌, ◌≤◌, ◌++◌, List, length, replicate}
 use Rattle.mh_model.specs.Trace.{Letter}
-use Rattle.mh_report.specs.Points.{IsPoint, after}
-use Rattle.mh_report.specs.Segments.{letter_of}
-use Rattle.mh_report.specs.Slides.{Passing, passings}
+use Rattle.mh_report.specs.{Points.{IsPoint, after}, Segments.letter_of, Slides.{Passing, passings}}
 use Rattle.mh_report.proofs.slide.slide_over.Given as goal
 
 abbrev pub invariant-loop-left : goal.invariant-loop-left

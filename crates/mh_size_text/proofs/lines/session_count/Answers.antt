@@ -1,7 +1,6 @@
-use Rattle.std.proofs.Common.{List, map, ap, arith}
-use Rattle.std.proofs.lemmas.List.{drop_all}
+use Rattle.std.proofs.{Common.{List, map, ap, arith}, lemmas.List.drop_all}
 use Rattle.mh_model.specs.declared.command.Event.{Event}
-use Rattle.mh_seen.specs.Seen.{greatest}
+use Rattle.mh_size_runs.specs.Seen.{greatest}
 use Rattle.mh_size_text.specs.Texts.{session_count, session_of}
 use Rattle.mh_size_text.proofs.lines.session_count.Goals as goal
 

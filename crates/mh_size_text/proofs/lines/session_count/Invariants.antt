@@ -1,5 +1,5 @@
 use Rattle.std.proofs.Common.{◌≡◌, drop, map, max}
-use Rattle.mh_seen.specs.Seen.{greatest}
+use Rattle.mh_size_runs.specs.Seen.{greatest}
 use Rattle.mh_size_text.specs.Texts.{session_of}
 use Rattle.mh_size_text.proofs.lines.session_count.Given as goal
 

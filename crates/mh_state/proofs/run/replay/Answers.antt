@@ -1,5 +1,4 @@
-use Rattle.std.proofs.Common.{length, arith}
-use Rattle.std.proofs.lemmas.Grind.{common_steps}
+use Rattle.std.proofs.{Common.{length, arith}, lemmas.Grind.common_steps}
 use Rattle.mh_model.specs.Limits.{most_entries}
 use Rattle.mh_state.proofs.RunLemmas.{none-done, all-done, stopped-so-far, stopped-full, stopped-more, stopped-ends, stopped-left}
 use Rattle.mh_state.proofs.run.replay.Goals as goal

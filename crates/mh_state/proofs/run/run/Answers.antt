@@ -1,7 +1,7 @@
 use Rattle.std.proofs.Common.{sym, ap, ◌∙◌}
 use Rattle.mh_model.specs.Pages.{free_pages}
-use Rattle.mh_promise.specs.Runs as promised
 use Rattle.mh_state.specs.Whole.{shown_outcome}
+use Rattle.mh_promise.specs.Runs as promised
 use Rattle.mh_state.proofs.run.run.Goals as goal
 
 pub returns-clause-promise : goal.returns-clause-promise

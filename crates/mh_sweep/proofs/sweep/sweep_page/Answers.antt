@@ -1,7 +1,6 @@
 use Rattle.std.proofs.Common.{◌≡◌, ◌≢◌, ◌∙◌, ◌<◌, ◌≤◌, ◌+◌, ◌%◌, None, Some, sym, refl, ap, arith, rules}
 use Rattle.std.proofs.lemmas.List.{length-set}
-use Rattle.mh_model.specs.Classes.{slots_in}
-use Rattle.mh_model.specs.Pages.{class_at, page_number}
+use Rattle.mh_model.specs.{Classes.slots_in, Pages.{class_at, page_number}}
 use Rattle.mh_sweep.specs.Swept.{slots_swept, stretch_end}
 use Rattle.mh_sweep.proofs.PageSweeping.{sweeping-ends, sweeping-all, sweeping-judged, not_last, whole, stretch-class, stretch-long, free-passed}
 use Rattle.mh_sweep.proofs.sweep.sweep_page.Goals as goal

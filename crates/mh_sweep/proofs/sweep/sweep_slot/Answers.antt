@@ -1,5 +1,4 @@
-use Rattle.std.proofs.Common.{◌∙◌, sym}
-use Rattle.std.proofs.lemmas.Bool.{eqb-true}
+use Rattle.std.proofs.{Common.{◌∙◌, sym}, lemmas.Bool.eqb-true}
 use Rattle.mh_sweep.proofs.SweepLemmas.{swept-free, swept-kept, none_of}
 use Rattle.mh_sweep.proofs.sweep.sweep_slot.Goals as goal
 

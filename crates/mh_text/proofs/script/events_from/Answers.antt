@@ -1,5 +1,4 @@
-use Rattle.std.proofs.Common.{◌≡◌, [], ap, refl, sym, ◌∙◌}
-use Rattle.std.proofs.lemmas.Bool.{false≢true}
+use Rattle.std.proofs.{Common.{◌≡◌, [], ap, refl, sym, ◌∙◌}, lemmas.Bool.false≢true}
 use Rattle.mh_text.proofs.ScriptLemmas.{walks_blank, walks_known, walks_calls, walks_called, walks_asks, walks_wrong, walks_event, walks_end, walks_rest, event_fewer}
 use Rattle.mh_text.specs.Pieces.{Lines}
 use Rattle.mh_text.proofs.script.events_from.Goals as goal

@@ -1,13 +1,9 @@
-use Rattle.std.proofs.Common.{arith, ◌∙◌}
-use Rattle.mh_text.proofs.StreamLemmas.{AppendsBeginning-kept, Appends-more}
+use Rattle.std.proofs.Common.{arith}
+use Rattle.mh_text.proofs.StreamLemmas.{takes-fails, takes-more}
 use Rattle.mh_text.proofs.stream.write_text.Goals as goal
 
-pub returns-in_default-clause-begun : goal.returns-in_default-clause-begun
-returns-in_default-clause-begun g c = AppendsBeginning-kept _ _ _ _ _ c.loop-from.invariant.2 c.in_default.ensures.kept
+pub returns-in_default : goal.returns-in_default
+returns-in_default g c = takes-fails _ _ c.loop-from.invariant.1 c.in_default.ensures.failed
 
 pub loop-from-preserved : goal.loop-from-preserved
-loop-from-preserved g c = (
-  c.in-Ok.ensures.no_failure ∙ c.loop-from.invariant.0,
-  omega (arith, c.in-Ok.ensures.within),
-  Appends-more _ _ _ _ _ _ c.loop-from.invariant.2 c.in-Ok.ensures.wrote,
-)
+loop-from-preserved g c = (omega (arith, c.in-Ok.ensures.within), takes-more _ _ _ c.loop-from.invariant.1 c.in-Ok.ensures.wrote)

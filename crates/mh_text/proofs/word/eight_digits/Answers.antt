@@ -1,5 +1,4 @@
-use Rattle.std.proofs.Common.{◌∙◌, arith}
-use Rattle.std.proofs.lemmas.List.{take_rest}
+use Rattle.std.proofs.{Common.{◌∙◌, arith}, lemmas.List.take_rest}
 use Rattle.mh_text.proofs.DigitLemmas.{value_step}
 use Rattle.mh_text.proofs.word.eight_digits.Goals as goal
 

@@ -1,12 +1,11 @@
 use Rattle.std.proofs.Common.{◌≡◌, ◌∙◌, ◌+◌, ◌-◌, [], ◌∷◌, min, ap, drop, length, subst, sym, get_or, arith}
 use Rattle.mh_report.specs.Windows.{share_of}
-use Rattle.mh_window_laws.specs.Windows.{KeepsShare}
-use Rattle.mh_windows.specs.declared.always.Point.{Point}
-use Rattle.mh_windows.specs.Always.{GoToTheEnd, share_from, share_until}
+use Rattle.mh_run_laws.specs.Windows.{KeepsShare}
+use Rattle.mh_windows.specs.{declared.always.WindowLeast.WindowLeast, Always.{GoToTheEnd, share_from, share_until}}
 use Rattle.mh_windows.proofs.AlwaysLemmas.{from_within, keeps_from, last_at, least_fits, least_more, one_left, share_of_last, some_point, two_at}
 use Rattle.mh_windows.proofs.always.share_from.Goals as goal
 
-none : Point
+none : WindowLeast
 none = record { window = 0; least = 0 }
 
 pub loop-i-init : goal.loop-i-init

@@ -1,8 +1,7 @@
 use Rattle.std.proofs.Common.{◌≡◌, ◌+◌, ◌-◌, ◌≤◌, min, Some, subst, refl, length, arith}
-use Rattle.mh_model.specs.declared.birth.TheConstants.{LIFE}
-use Rattle.mh_model.specs.Trace.{floor, least_mutator}
+use Rattle.mh_model.specs.{declared.birth.TheConstants.LIFE, Trace.{floor, least_mutator}}
 use Rattle.mh_report.proofs.SegmentLemmas.{counts_whole}
-use Rattle.mh_window_laws.proofs.FloorLemmas.{floor_of_part, one_decides}
+use Rattle.mh_run_laws.proofs.windows.FloorLemmas.{floor_of_part, one_decides}
 use Rattle.mh_windows.proofs.floor.broken_floor.Goals as goal
 
 pub overflow_add-letters : goal.overflow_add-letters

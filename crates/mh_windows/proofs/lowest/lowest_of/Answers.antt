@@ -1,9 +1,8 @@
 use Rattle.std.proofs.Common.{◌≡◌, ◌∙◌, ◌+◌, ◌-◌, ◌≤◌, ap, subst, sym, refl, length, take, arith}
-use Rattle.mh_model.specs.declared.birth.TheConstants.{LIFE}
-use Rattle.mh_model.specs.Trace.{mutator_count}
+use Rattle.mh_model.specs.{declared.birth.TheConstants.LIFE, Trace.mutator_count}
 use Rattle.mh_report.specs.Slides.{passings_of}
 use Rattle.mh_report.proofs.SegmentLemmas.{counts_whole}
-use Rattle.mh_window_laws.proofs.StretchLemmas.{units_few}
+use Rattle.mh_run_laws.proofs.windows.StretchLemmas.{units_few}
 use Rattle.mh_windows.specs.Lowest.{IsLowest, LowestState, first_lowest, slid_over}
 use Rattle.mh_windows.proofs.LowestLemmas.{lowest_found, lowest_is_least, same_state}
 use Rattle.mh_windows.proofs.lowest.lowest_of.Goals as goal

@@ -1,10 +1,9 @@
 use Rattle.std.proofs.Common.{◌≡◌, ◌+◌, ◌-◌, ◌≤◌, subst, sym, refl, length, take, arith}
 use Rattle.std.specs.Prelude.{IfNone, IfSome}
-use Rattle.mh_model.specs.declared.birth.TheConstants.{LIFE}
-use Rattle.mh_model.specs.Trace.{mutator_count}
+use Rattle.mh_model.specs.{declared.birth.TheConstants.LIFE, Trace.mutator_count}
 use Rattle.mh_report.proofs.SegmentLemmas.{counts_whole}
-use Rattle.mh_window_laws.specs.Windows.{KeepsShare}
-use Rattle.mh_window_laws.proofs.StretchLemmas.{units_few}
+use Rattle.mh_run_laws.specs.Windows.{KeepsShare}
+use Rattle.mh_run_laws.proofs.windows.StretchLemmas.{units_few}
 use Rattle.mh_windows.specs.Shares.{IsShort, ShareState}
 use Rattle.mh_windows.proofs.ShareLemmas.{first_state, no_longer_than, none_found, short_first, some_found}
 use Rattle.mh_windows.proofs.share.short_stretch.Goals as goal

@@ -6,16 +6,13 @@ use denote.RawPtr.{Ptr, block_ptr, null_ptr}
 use denote.Struct.Struct.{exits_of}
 use denote.Struct.Owning.{shape, fields, to}
 use denote.Param.Send.{IsSend, AllSend, owning_send, struct_send, sendable}
-use Rattle.std.specs.declared.alloc.Global.{Global}
-use Rattle.std.specs.declared.option.Option.{Option}
-use Rattle.std.specs.declared.option.Option.TheVariants.{None, Some}
-use Rattle.std.proofs.Crossing as heap
+use Rattle.std.specs.declared.{alloc.Global.Global, option.Option.Option, option.Option.TheVariants.{None, Some}}
 use Rattle.std_alloc.proofs.SendSync.{quiet, lies}
+use Rattle.mh_embed.proofs.embedded.Embedded.TheSendSync.{the_send as embedded}
+use Rattle.metroheap_c.specs.{Held.{Kept, handle_owns}, contracts.handle.Handle.{the_row, the_type}}
+use Rattle.std.proofs.Crossing as heap
 use Rattle.std_heap.proofs.Global.TheSendSync as handle
 use Rattle.mh_embed.specs.contracts.embedded.Embedded as Embedded
-use Rattle.mh_embed.proofs.embedded.Embedded.TheSendSync.{the_send as embedded}
-use Rattle.metroheap_c.specs.Held.{Kept, handle_owns}
-use Rattle.metroheap_c.specs.contracts.handle.Handle.{the_row, the_type}
 
 keyless : (a : Global) (p : Ptr) (v : Option Kept) → Keyless (handle_owns a p v)
 keyless a null_ptr None = tt

@@ -25,19 +25,16 @@ use denote.Steps.{nothing}
 use denote.Triple.Spec.{triple_of}
 use denote.Triple.Table.{entered}
 use denote.Triple.Walked.{says, Stays, stay_dropped, walk_of, ends_at, Goes-dropped, walk_Meets}
-use Rattle.std.specs.contracts.alloc.Global as heap
-use Rattle.std.specs.contracts.impls.GlobalAllocator.TheImpl.{ghosts}
-use Rattle.std.specs.declared.option.Option.TheVariants.{None, Some}
-use Rattle.std.proofs.option.Made.{Some-of, none_of}
-use Rattle.std.proofs.BoxSteps.Form.{D, box_typed}
-use Rattle.std.proofs.BoxSteps.Steps.{box_in}
+use Rattle.std.specs.{contracts.impls.GlobalAllocator.TheImpl.ghosts, declared.option.Option.TheVariants.{None, Some}}
+use Rattle.std.proofs.{option.Made.{Some-of, none_of}, BoxSteps.Form.{D, box_typed}, BoxSteps.Steps.box_in}
 use Rattle.std_alloc.proofs.ResultValues.{and_tt}
-use Rattle.metroheap_c.specs.contracts.parts.Parts as Parts
 use Rattle.metroheap_c.proofs.AsBox.{E, FromHandle as From, both, null_typed, handle_out}
+use Rattle.metroheap_c.specs.contracts.handle.Handle.into_parts.Key.{name as #self}
+use Rattle.std.specs.contracts.alloc.Global as heap
+use Rattle.metroheap_c.specs.contracts.parts.Parts as Parts
 use Rattle.mh_embed.specs.contracts.embedded.Embedded as kept
 use Rattle.metroheap_c.specs.contracts.handle.Handle as handle
 use Rattle.metroheap_c.specs.contracts.handle.Handle.into_parts as F
-use Rattle.metroheap_c.specs.contracts.handle.Handle.into_parts.Key.{name as #self}
 use Rattle.metroheap_c.proofs.handle.Handle.into_parts.Statement as stated
 use Rattle.metroheap_c.proofs.handle.Handle.into_parts.Code as code
 

@@ -24,11 +24,11 @@ use denote.Triple.Spec.{triple_of}
 use denote.Triple.Table.{entered}
 use denote.Triple.Walked.{says, Stays, stay_dropped, walk_of, ends_at, Goes-dropped, walk_Meets}
 use Rattle.std.proofs.alloc.Calls.{handle_tells}
-use Rattle.std.specs.contracts.alloc.Global as heap
 use Rattle.std.specs.declared.option.Option.TheVariants.{None}
 use Rattle.metroheap_c.proofs.AsBox.{E, both, null_typed, handle_in}
-use Rattle.metroheap_c.specs.contracts.handle.Handle.none as F
 use Rattle.metroheap_c.specs.contracts.handle.Handle.none.Key.{name as #self}
+use Rattle.std.specs.contracts.alloc.Global as heap
+use Rattle.metroheap_c.specs.contracts.handle.Handle.none as F
 use Rattle.metroheap_c.proofs.handle.Handle.none.Statement as stated
 use Rattle.metroheap_c.proofs.handle.Handle.none.Code as code
 

@@ -23,12 +23,11 @@ use denote.Steps.{nothing}
 use denote.Triple.Spec.{triple_of}
 use denote.Triple.Table.{entered}
 use denote.Triple.Walked.{says, Stays, stay_dropped, walk_of, ends_at, Goes-dropped, walk_Meets}
-use Rattle.std_alloc.proofs.BoxSteps.Form.{D, B, word, box_typed}
-use Rattle.std_alloc.proofs.BoxSteps.Steps.{box_out, box_in}
+use Rattle.std_alloc.proofs.BoxSteps.{Form.{D, B, word, box_typed}, Steps.{box_out, box_in}}
 use Rattle.std.specs.declared.option.Option.TheVariants.{Some}
 use Rattle.metroheap_c.proofs.AsBox.{E, FromParts as From}
-use Rattle.metroheap_c.specs.contracts.handle.Handle.of_parts as F
 use Rattle.metroheap_c.specs.contracts.handle.Handle.of_parts.Key.{name as #self}
+use Rattle.metroheap_c.specs.contracts.handle.Handle.of_parts as F
 use Rattle.metroheap_c.proofs.handle.Handle.of_parts.Statement as stated
 use Rattle.metroheap_c.proofs.handle.Handle.of_parts.Code as code
 

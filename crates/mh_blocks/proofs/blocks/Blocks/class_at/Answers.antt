@@ -1,6 +1,5 @@
 use Rattle.std.proofs.Common.{◌∙◌, sym, arith}
-use Rattle.mh_table_laws.proofs.TableMapLemmas.{length-table_map}
-use Rattle.mh_table_laws.proofs.PageMapLemmas.{class_at-table_map}
+use Rattle.mh_table_laws.proofs.{TableMapLemmas.length-table_map, PageMapLemmas.class_at-table_map}
 use Rattle.mh_blocks.specs.Words.{block_of}
 use Rattle.mh_blocks.proofs.blocks.Blocks.class_at.Goals as goal
 

@@ -1,6 +1,5 @@
 use Rattle.std.proofs.Common.{◌∙◌, arith, ap}
-use Rattle.mh_blocks.proofs.AddressMap.{address_in-table_map}
-use Rattle.mh_blocks.proofs.ReadLemmas.{words_there, header_within, forward_is}
+use Rattle.mh_blocks.proofs.{AddressMap.address_in-table_map, ReadLemmas.{words_there, header_within, forward_is}}
 use Rattle.mh_blocks.specs.Words.{place_in, block_of}
 use Rattle.mh_blocks.proofs.blocks.Blocks.forward_from.Goals as goal
 

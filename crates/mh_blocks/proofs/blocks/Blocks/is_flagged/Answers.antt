@@ -1,6 +1,5 @@
 use Rattle.std.proofs.Common.{◌∙◌, sym, arith}
-use Rattle.mh_table_laws.proofs.TableMapLemmas.{length-table_map}
-use Rattle.mh_table_laws.proofs.PageMapLemmas.{flag_at-table_map}
+use Rattle.mh_table_laws.proofs.{TableMapLemmas.length-table_map, PageMapLemmas.flag_at-table_map}
 use Rattle.mh_blocks.specs.Words.{block_of}
 use Rattle.mh_blocks.proofs.blocks.Blocks.is_flagged.Goals as goal
 

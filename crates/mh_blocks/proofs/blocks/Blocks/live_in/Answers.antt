@@ -1,6 +1,5 @@
 use Rattle.std.proofs.Common.{◌∙◌, sym, arith}
-use Rattle.mh_table_laws.proofs.TableMapLemmas.{length-table_map}
-use Rattle.mh_table_laws.proofs.PageMapLemmas.{count_at-table_map}
+use Rattle.mh_table_laws.proofs.{TableMapLemmas.length-table_map, PageMapLemmas.count_at-table_map}
 use Rattle.mh_blocks.specs.Words.{block_of}
 use Rattle.mh_blocks.proofs.blocks.Blocks.live_in.Goals as goal
 

@@ -1,6 +1,5 @@
 use Rattle.std.proofs.Common.{◌≡◌, ◌∙◌, arith}
-use Rattle.mh_blocks.proofs.AddressMap.{address_in-table_map}
-use Rattle.mh_blocks.proofs.ReadLemmas.{has_number, number_within, number_at_is}
+use Rattle.mh_blocks.proofs.{AddressMap.address_in-table_map, ReadLemmas.{has_number, number_within, number_at_is}}
 use Rattle.mh_blocks.specs.Words.{reference_words, block_of}
 use Rattle.mh_pages.specs.Words.{words_at}
 use Rattle.mh_blocks.proofs.blocks.Blocks.load_int.Goals as goal

@@ -1,11 +1,8 @@
-use Rattle.mh_blocks.proofs.IndexedLemmas.{made_indexed}
+use Rattle.mh_blocks.proofs.{IndexedLemmas.made_indexed, FreeLemmas.free_for_class, MadeLemmas.made_at}
+use Rattle.mh_blocks.proofs.{CountedLemmas.few_counts, InvariantLemmas.made_counted}
 use Rattle.std.proofs.Common.{ap, is_some, refl, arith}
 use Rattle.mh_model.specs.Classes.{class_of, part_words}
 use Rattle.mh_table_laws.proofs.placing.Places.{block_at-with_taken_same}
-use Rattle.mh_blocks.proofs.FreeLemmas.{free_for_class}
-use Rattle.mh_blocks.proofs.MadeLemmas.{made_at}
-use Rattle.mh_blocks.proofs.CountedLemmas.{few_counts}
-use Rattle.mh_blocks.proofs.InvariantLemmas.{made_counted}
 use Rattle.mh_blocks.proofs.blocks.Blocks.make_at.Goals as goal
 
 pub take-requires : goal.take-requires

@@ -2,7 +2,7 @@ use Rattle.std.proofs.Common.{◌∙◌, sym, arith, ap}
 use Rattle.mh_table_laws.proofs.PageMapLemmas.{is_taken-table_map}
 use Rattle.mh_blocks.proofs.ReadLemmas.{words_there, header_within, number_count_is}
 use Rattle.mh_blocks.specs.Words.{header_in, block_of}
-use Rattle.mh_pages.specs.OfClasses.Counts.{number_count}
+use Rattle.mh_classes.specs.Counts.{number_count}
 use Rattle.mh_blocks.proofs.blocks.Blocks.number_count.Goals as goal
 
 pub address-address-requires : goal.address-address-requires

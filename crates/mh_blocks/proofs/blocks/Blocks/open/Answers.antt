@@ -1,7 +1,5 @@
-use Rattle.mh_blocks.proofs.IndexedLemmas.{empty_indexed}
+use Rattle.mh_blocks.proofs.{IndexedLemmas.empty_indexed, PackedLemmas.empty_blocks, InvariantLemmas.empty_counted}
 use Rattle.std.proofs.Common.{◌∙◌, ap}
-use Rattle.mh_blocks.proofs.PackedLemmas.{empty_blocks}
-use Rattle.mh_blocks.proofs.InvariantLemmas.{empty_counted}
 use Rattle.mh_blocks.specs.Words.{block_table}
 use Rattle.mh_blocks.proofs.blocks.Blocks.open.Goals as goal
 

@@ -2,7 +2,7 @@ use Rattle.std.proofs.Common.{◌∙◌, arith, ap}
 use Rattle.mh_blocks.proofs.AddressMap.{address_in-table_map}
 use Rattle.mh_blocks.proofs.ReadLemmas.{words_there, header_within, reference_count_is, few_references}
 use Rattle.mh_blocks.specs.Words.{header_in, block_of}
-use Rattle.mh_pages.specs.OfClasses.Counts.{reference_count}
+use Rattle.mh_classes.specs.Counts.{reference_count}
 use Rattle.mh_blocks.proofs.blocks.Blocks.reference_count_from.Goals as goal
 
 pub word_from-requires-clause-at : goal.word_from-requires-clause-at

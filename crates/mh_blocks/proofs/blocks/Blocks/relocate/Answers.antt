@@ -1,13 +1,10 @@
-use Rattle.mh_blocks.proofs.IndexedLemmas.{moved_indexed}
+use Rattle.mh_blocks.proofs.{IndexedLemmas.moved_indexed, ReadLemmas.{page_there, class_there}, MovedLemmas.moves}
+use Rattle.mh_blocks.proofs.{CountedLemmas.few_counts, InvariantLemmas.moved_counted}
 use Rattle.std.proofs.Common.{◌∙◌, refl, sym, arith, ap}
 use Rattle.mh_model.specs.Pages.{page_number, class_at}
 use Rattle.mh_blocks.specs.Words.{block_of, block_table}
 use Rattle.mh_table_laws.proofs.TableMapLemmas.{length-table_map}
 use Rattle.mh_table_laws.proofs.PageMapLemmas.{is_taken-table_map, class_at-table_map}
-use Rattle.mh_blocks.proofs.ReadLemmas.{page_there, class_there}
-use Rattle.mh_blocks.proofs.MovedLemmas.{moves}
-use Rattle.mh_blocks.proofs.CountedLemmas.{few_counts}
-use Rattle.mh_blocks.proofs.InvariantLemmas.{moved_counted}
 use Rattle.mh_blocks.proofs.blocks.Blocks.relocate.Goals as goal
 
 pub class_at-requires : goal.class_at-requires

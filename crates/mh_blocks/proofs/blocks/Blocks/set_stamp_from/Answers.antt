@@ -1,9 +1,7 @@
-use Rattle.mh_blocks.proofs.IndexedLemmas.{stamp_indexed}
-use Rattle.std.proofs.Common.{◌∙◌, ap, arith}
-use Rattle.mh_blocks.proofs.AddressMap.{address_in-table_map}
-use Rattle.mh_blocks.proofs.InvariantLemmas.{stamp_counted}
-use Rattle.mh_blocks.proofs.ReadLemmas.{words_there, header_within}
+use Rattle.mh_blocks.proofs.{IndexedLemmas.stamp_indexed, AddressMap.address_in-table_map}
+use Rattle.mh_blocks.proofs.{InvariantLemmas.stamp_counted, ReadLemmas.{words_there, header_within}}
 use Rattle.mh_blocks.proofs.WriteLemmas.{with_word-stamp}
+use Rattle.std.proofs.Common.{◌∙◌, ap, arith}
 use Rattle.mh_blocks.specs.Words.{block_of}
 use Rattle.mh_blocks.proofs.blocks.Blocks.set_stamp_from.Goals as goal
 

@@ -1,6 +1,5 @@
 use Rattle.std.proofs.Common.{◌∙◌, arith}
-use Rattle.mh_blocks.proofs.AddressMap.{address_in-table_map}
-use Rattle.mh_blocks.proofs.ReadLemmas.{words_there, header_within, stamp_is}
+use Rattle.mh_blocks.proofs.{AddressMap.address_in-table_map, ReadLemmas.{words_there, header_within, stamp_is}}
 use Rattle.mh_blocks.specs.Words.{block_of}
 use Rattle.mh_blocks.proofs.blocks.Blocks.stamp_from.Goals as goal
 

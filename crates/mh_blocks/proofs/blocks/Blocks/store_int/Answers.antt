@@ -1,9 +1,7 @@
-use Rattle.mh_blocks.proofs.IndexedLemmas.{number_indexed}
-use Rattle.std.proofs.Common.{◌≡◌, ◌∙◌, arith}
-use Rattle.mh_blocks.proofs.AddressMap.{address_in-table_map}
-use Rattle.mh_blocks.proofs.InvariantLemmas.{number_counted}
-use Rattle.mh_blocks.proofs.ReadLemmas.{has_number, number_within}
+use Rattle.mh_blocks.proofs.{IndexedLemmas.number_indexed, AddressMap.address_in-table_map}
+use Rattle.mh_blocks.proofs.{InvariantLemmas.number_counted, ReadLemmas.{has_number, number_within}}
 use Rattle.mh_blocks.proofs.WriteLemmas.{with_word-number}
+use Rattle.std.proofs.Common.{◌≡◌, ◌∙◌, arith}
 use Rattle.mh_blocks.specs.Words.{reference_words, block_of}
 use Rattle.mh_pages.specs.Words.{words_at}
 use Rattle.mh_blocks.proofs.blocks.Blocks.store_int.Goals as goal

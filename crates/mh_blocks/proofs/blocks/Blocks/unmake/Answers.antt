@@ -1,10 +1,9 @@
-use Rattle.mh_blocks.proofs.IndexedLemmas.{released_indexed}
+use Rattle.mh_blocks.proofs.{IndexedLemmas.released_indexed, CountedLemmas.released_counts}
+use Rattle.mh_blocks.proofs.InvariantLemmas.{released_counted}
 use Rattle.std.proofs.Common.{◌∙◌, sym, ap}
 use mir.Val.{bool_byte}
 use Rattle.mh_table_laws.proofs.TableMapLemmas.{with_released-table_map}
 use Rattle.mh_table_laws.proofs.PageMapLemmas.{is_taken-table_map, count_at-table_map}
-use Rattle.mh_blocks.proofs.CountedLemmas.{released_counts}
-use Rattle.mh_blocks.proofs.InvariantLemmas.{released_counted}
 use Rattle.mh_blocks.specs.Words.{block_of}
 use Rattle.mh_blocks.proofs.blocks.Blocks.unmake.Goals as goal
 

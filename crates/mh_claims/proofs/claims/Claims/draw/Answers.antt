@@ -1,8 +1,7 @@
 use Rattle.std.proofs.Common.{arith, ◌≡◌, ◌+◌, ap}
 use Rattle.atomic_table.specs.Table.{Me}
 use Rattle.mh_seat_laws.specs.ClaimWord.{Lists}
-use Rattle.mh_claims.specs.Seats.{next_of}
-use Rattle.mh_claims.specs.Steps.{first_list}
+use Rattle.mh_claims.specs.{Seats.next_of, Steps.first_list}
 use Rattle.mh_claims.proofs.ClaimSteps.{next-append}
 use Rattle.mh_claims.proofs.claims.Claims.draw.Goals as goal
 

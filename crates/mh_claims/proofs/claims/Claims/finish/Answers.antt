@@ -1,6 +1,5 @@
 use Rattle.std.proofs.Common.{arith, ◌≡◌, ℕ, ◌∷◌, ◌++◌, [], true, length, ap, ◌∙◌, sym, subst, Some}
-use Rattle.std.proofs.lemmas.List.Elements.{All-pop}
-use Rattle.std.proofs.lemmas.List.{nil_from_length, length-map}
+use Rattle.std.proofs.{lemmas.List.Elements.All-pop, lemmas.List.{nil_from_length, length-map}}
 use Rattle.atomic_table.specs.Table.{Seen}
 use Rattle.mh_model.specs.History.{times_drawn}
 use Rattle.mh_seat_laws.specs.ClaimWord.{Lists, IsClaimed}

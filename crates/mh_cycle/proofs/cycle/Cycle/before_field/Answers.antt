@@ -1,7 +1,6 @@
 use Rattle.std.proofs.Common.{◌∙◌, sym}
-use Rattle.mh_mark.proofs.OfGrey.ShadeLemmas.{marked-apart}
-use Rattle.mh_cycle.proofs.FrameLemmas.{framed-shaded}
-use Rattle.mh_cycle.proofs.ReadyLemmas.{are-marked, reference-leads}
+use Rattle.mh_grey.proofs.ShadeLemmas.{marked-apart}
+use Rattle.mh_cycle.proofs.{FrameLemmas.framed-shaded, ReadyLemmas.{are-marked, reference-leads}}
 use Rattle.mh_cycle.proofs.SnapshotLemmas.{field-kept}
 use Rattle.mh_cycle.proofs.cycle.Cycle.before_field.Goals as goal
 

@@ -1,8 +1,6 @@
 use Rattle.std.proofs.Common.{◌∙◌, sym}
-use Rattle.mh_mark.proofs.OfGrey.ShadeLemmas.{marked-apart}
-use Rattle.mh_cycle.proofs.FrameLemmas.{framed-shaded}
-use Rattle.mh_cycle.proofs.ReadyLemmas.{are-marked}
-use Rattle.mh_cycle.proofs.SnapshotLemmas.{root-kept, kept-steady}
+use Rattle.mh_grey.proofs.ShadeLemmas.{marked-apart}
+use Rattle.mh_cycle.proofs.{FrameLemmas.framed-shaded, ReadyLemmas.are-marked, SnapshotLemmas.{root-kept, kept-steady}}
 use Rattle.mh_cycle.proofs.cycle.Cycle.before_root.Goals as goal
 
 pub shade-requires-clause-apart : goal.shade-requires-clause-apart

@@ -1,7 +1,6 @@
 use Rattle.std.proofs.Common.{◌+◌, ◌∙◌, sym, ap}
 use Rattle.mh_model.specs.declared.cycle.Phase.TheVariants.{Mark}
-use Rattle.mh_cycle.proofs.StepLemmas.{cost-is, first-cost}
-use Rattle.mh_cycle.proofs.ReadyLemmas.{walkable}
+use Rattle.mh_cycle.proofs.{StepLemmas.{cost-is, first-cost}, ReadyLemmas.walkable}
 use Rattle.mh_cycle.proofs.cycle.Cycle.first_grey.Goals as goal
 
 pub first_grey-requires-clause-there : goal.first_grey-requires-clause-there

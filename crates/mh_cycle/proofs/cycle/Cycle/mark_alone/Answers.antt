@@ -1,6 +1,5 @@
 use Rattle.std.proofs.Common.{◌≡◌, ◌+◌, ◌-◌, false, refl, ap, ◌∙◌, arith}
-use Rattle.mh_model.specs.declared.cycle.Phase.TheVariants.{Mark}
-use Rattle.mh_model.specs.Collector.{is_idle}
+use Rattle.mh_model.specs.{declared.cycle.Phase.TheVariants.Mark, Collector.is_idle}
 use Rattle.mh_cycle.specs.State.{CycleState}
 use Rattle.mh_cycle.proofs.TellingLemmas.{leads-starts, leads-step}
 use Rattle.mh_cycle.proofs.StrideLemmas.{turn-none, turn-step, from-step, still}

@@ -1,6 +1,5 @@
 use Rattle.std.proofs.Common.{◌-◌, false}
-use Rattle.mh_model.specs.declared.cycle.Phase.TheVariants.{Mark}
-use Rattle.mh_model.specs.Deeds.{deeds_of_steps}
+use Rattle.mh_model.specs.{declared.cycle.Phase.TheVariants.Mark, Deeds.deeds_of_steps}
 use Rattle.mh_deeds.specs.Logs.{Leads}
 use Rattle.mh_cycle.specs.Advance.{IsFrom, IsMarkingTurn}
 use Rattle.mh_cycle.proofs.cycle.Cycle.mark_alone.Given as goal

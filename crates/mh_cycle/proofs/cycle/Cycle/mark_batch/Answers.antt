@@ -1,8 +1,7 @@
 use Rattle.std.proofs.Common.{◌∙◌, refl, ap}
 use Rattle.mh_model.specs.Collector.{Marking}
-use Rattle.mh_mark.specs.OfGrey.Shading.{marking}
-use Rattle.mh_cycle.proofs.BatchLemmas.{none-marked, queue_of, framed-as, run-none, run-some}
-use Rattle.mh_cycle.proofs.FrameLemmas.{framed-next}
+use Rattle.mh_grey.specs.Shading.{marking}
+use Rattle.mh_cycle.proofs.{BatchLemmas.{none-marked, queue_of, framed-as, run-none, run-some}, FrameLemmas.framed-next}
 use Rattle.mh_cycle.proofs.ReadyLemmas.{walkable}
 use Rattle.mh_cycle.proofs.cycle.Cycle.mark_batch.Goals as goal
 

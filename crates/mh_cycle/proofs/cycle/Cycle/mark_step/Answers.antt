@@ -1,11 +1,8 @@
 use Rattle.std.proofs.Common.{false, refl, sym, ap, subst}
-use Rattle.mh_model.specs.Collector.{marking_of}
-use Rattle.mh_model.specs.Deeds.{deeds_in, mark_deeds}
+use Rattle.mh_model.specs.{Collector.marking_of, Deeds.{deeds_in, mark_deeds}}
 use Rattle.mh_deeds.specs.Logs.{Told}
 use Rattle.mh_cycle.specs.State.{CycleState}
-use Rattle.mh_cycle.proofs.FrameLemmas.{length-mark_step, framed-next}
-use Rattle.mh_cycle.proofs.ReadyLemmas.{walkable}
-use Rattle.mh_cycle.proofs.StepLemmas.{mark-after}
+use Rattle.mh_cycle.proofs.{FrameLemmas.{length-mark_step, framed-next}, ReadyLemmas.walkable, StepLemmas.mark-after}
 use Rattle.mh_cycle.proofs.TellingLemmas.{step-told}
 use Rattle.mh_cycle.proofs.cycle.Cycle.mark_step.Goals as goal
 

@@ -1,14 +1,12 @@
 use Rattle.std.proofs.Common.{◌≡◌, ◌∙◌, ◌<◌, ◌-◌, ◌||◌, ◌++◌, false, inl, sym, refl, ap, subst, arith, is_some}
 use Rattle.std.proofs.lemmas.Bool.{true≢false}
-use Rattle.mh_model.specs.declared.cycle.Phase.TheVariants.{Defrag}
-use Rattle.mh_model.specs.Collector.{is_idle, forwarded_slots}
+use Rattle.mh_model.specs.{declared.cycle.Phase.TheVariants.Defrag, Collector.{is_idle, forwarded_slots}}
 use Rattle.mh_model.specs.Deeds.{deeds_in, step_deeds, deeds_of_steps}
 use Rattle.mh_deeds.specs.Logs.{Told, Leads}
 use Rattle.mh_deeds.proofs.ToldLemmas.{leads-ends}
 use Rattle.mh_laws.proofs.costs.Quanta.{step_cost-positive}
 use Rattle.mh_cycle.specs.State.{CycleState, with_forwarded}
-use Rattle.mh_cycle.proofs.DeedLemmas.{deeds-over}
-use Rattle.mh_cycle.proofs.StepLemmas.{cost-is, moving-defrag}
+use Rattle.mh_cycle.proofs.{DeedLemmas.deeds-over, StepLemmas.{cost-is, moving-defrag}}
 use Rattle.mh_cycle.proofs.TellingLemmas.{step-told, leads-starts, leads-step, defrag-phase}
 use Rattle.mh_cycle.proofs.StrideLemmas.{advance-ends, later-stride, over, over-past}
 use Rattle.mh_cycle.proofs.HopLemmas.{steady-forwarded, steady-lead}

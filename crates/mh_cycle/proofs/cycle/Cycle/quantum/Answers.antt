@@ -1,9 +1,7 @@
 use Rattle.std.proofs.Common.{◌-◌, ◌∙◌, ap}
 use Rattle.mh_cycle.specs.State.{CycleState}
-use Rattle.mh_cycle.proofs.SnapshotLemmas.{starts-from}
-use Rattle.mh_cycle.proofs.TellingLemmas.{quantum-is_told}
-use Rattle.mh_cycle.proofs.StrideLemmas.{IsQuantum, quantum-made}
-use Rattle.mh_cycle.proofs.cycle.Cycle.quantum.Given.{Over}
+use Rattle.mh_cycle.proofs.{SnapshotLemmas.starts-from, TellingLemmas.quantum-is_told}
+use Rattle.mh_cycle.proofs.{StrideLemmas.{IsQuantum, quantum-made}, cycle.Cycle.quantum.Given.Over}
 use Rattle.mh_cycle.proofs.cycle.Cycle.quantum.Goals as goal
 
 pub scan_roots-left-requires : goal.scan_roots-left-requires

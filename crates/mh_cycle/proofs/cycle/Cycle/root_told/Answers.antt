@@ -2,8 +2,7 @@ use Rattle.std.proofs.Common.{false, ◌∙◌, ◌∷◌, [], length, sym, ap, 
 use Rattle.mh_model.specs.Deeds.{deeds_in, root_deed}
 use Rattle.mh_deeds.specs.Logs.{Told}
 use Rattle.mh_cycle.specs.State.{CycleState}
-use Rattle.mh_cycle.proofs.ToldLemmas.{root-is}
-use Rattle.mh_cycle.proofs.TellingLemmas.{step-told}
+use Rattle.mh_cycle.proofs.{ToldLemmas.root-is, TellingLemmas.step-told}
 use Rattle.mh_cycle.proofs.cycle.Cycle.root_told.Goals as goal
 
 pub returns-clause-told : goal.returns-clause-told

@@ -1,7 +1,6 @@
 use Rattle.std.proofs.Common.{refl}
-use Rattle.mh_mark.proofs.OfGrey.ShadeLemmas.{marked-apart}
-use Rattle.mh_cycle.proofs.FrameLemmas.{length-shade, framed-roots, framed-next}
-use Rattle.mh_cycle.proofs.ReadyLemmas.{are-marked}
+use Rattle.mh_grey.proofs.ShadeLemmas.{marked-apart}
+use Rattle.mh_cycle.proofs.{FrameLemmas.{length-shade, framed-roots, framed-next}, ReadyLemmas.are-marked}
 use Rattle.mh_cycle.proofs.StepLemmas.{roots-stay, roots-after}
 use Rattle.mh_cycle.proofs.cycle.Cycle.roots_step.Goals as goal
 

@@ -1,6 +1,5 @@
 use Rattle.std.proofs.Common.{inl, inr, sym, refl, ap, arith, false, ◌≤◌, ◌-◌}
-use Rattle.mh_model.specs.declared.cycle.Phase.TheVariants.{Roots}
-use Rattle.mh_model.specs.Collector.{is_idle}
+use Rattle.mh_model.specs.{declared.cycle.Phase.TheVariants.Roots, Collector.is_idle}
 use Rattle.mh_cycle.specs.State.{CycleState}
 use Rattle.mh_cycle.proofs.StepLemmas.{cost-is}
 use Rattle.mh_cycle.proofs.StrideLemmas.{advance-step, advance-turn, turn-none, from-step, still, over}

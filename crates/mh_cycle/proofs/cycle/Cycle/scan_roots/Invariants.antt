@@ -1,6 +1,5 @@
 use Rattle.std.proofs.Common.{◌-◌, false}
-use Rattle.mh_model.specs.declared.cycle.Phase.TheVariants.{Roots}
-use Rattle.mh_model.specs.Deeds.{deeds_of_steps}
+use Rattle.mh_model.specs.{declared.cycle.Phase.TheVariants.Roots, Deeds.deeds_of_steps}
 use Rattle.mh_deeds.specs.Logs.{Leads}
 use Rattle.mh_cycle.specs.Advance.{IsFrom, IsAdvance}
 use Rattle.mh_cycle.proofs.cycle.Cycle.scan_roots.Given as goal

@@ -1,11 +1,7 @@
 use Rattle.std.proofs.Common.{◌++◌, false, refl, sym, ap, ◌∙◌, arith}
-use Rattle.mh_model.specs.declared.cycle.Phase.TheVariants.{Sweep}
-use Rattle.mh_model.specs.Collector.{is_idle}
-use Rattle.mh_model.specs.Deeds.{deeds_of_steps}
+use Rattle.mh_model.specs.{declared.cycle.Phase.TheVariants.Sweep, Collector.is_idle, Deeds.deeds_of_steps}
 use Rattle.mh_cycle.specs.State.{CycleState, state_with_collector}
-use Rattle.mh_cycle.proofs.StepLemmas.{cost-is}
-use Rattle.mh_cycle.proofs.StrideLemmas.{stride-one, still}
-use Rattle.mh_cycle.proofs.TellingLemmas.{leads-one}
+use Rattle.mh_cycle.proofs.{StepLemmas.cost-is, StrideLemmas.{stride-one, still}, TellingLemmas.leads-one}
 use Rattle.mh_cycle.proofs.cycle.Cycle.sweep_some.Goals as goal
 
 -- a log that keeps nothing has any deeds

@@ -1,8 +1,7 @@
 use Rattle.std.proofs.Common.{rules}
 use Rattle.mh_embed.specs.Endings.{NoRoom, NotReserved, Reserved}
-use Rattle.mh_embed.proofs.EndingLemmas.{is_world}
+use Rattle.mh_embed.proofs.{EndingLemmas.is_world, embedded.Embedded.reserve.Goals.{in-Ok, in-Err}}
 use Rattle.mh_embed.proofs.embedded.Embedded.reserve.Goals as goal
-use Rattle.mh_embed.proofs.embedded.Embedded.reserve.Goals.{in-Ok, in-Err}
 
 pub returns-in_default : goal.returns-in_default
 returns-in_default c = rw (← c.self.view_is) (NotReserved (is_world c.self.inside.driver c.in_default.field-0 c.in_default.is) (search rules))

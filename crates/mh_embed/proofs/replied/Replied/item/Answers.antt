@@ -1,5 +1,4 @@
-use Rattle.std.proofs.Common.{rules, refl}
-use Rattle.std.proofs.lemmas.Option.{slice_get_read}
+use Rattle.std.proofs.{Common.{rules, refl}, lemmas.Option.slice_get_read}
 use Rattle.mh_embed.specs.Endings.{Found, NoItem}
 use Rattle.mh_embed.proofs.replied.Replied.item.Goals as goal
 

@@ -1,5 +1,4 @@
-use Rattle.std.proofs.Common.{◌≡◌, Some, arith}
-use Rattle.std.proofs.lemmas.Grind.{common_steps}
+use Rattle.std.proofs.{Common.{◌≡◌, Some, arith}, lemmas.Grind.common_steps}
 use Rattle.mh_model.specs.World.{slot_at}
 use Rattle.mh_heap.specs.PlainHeap.{world_of}
 use Rattle.mh_heap.proofs.PlainLemmas.{named_below}

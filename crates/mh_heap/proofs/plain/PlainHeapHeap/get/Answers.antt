@@ -1,5 +1,4 @@
-use Rattle.std.proofs.Common.{◌≡◌, None, get_or, arith}
-use Rattle.std.proofs.lemmas.Grind.{common_steps}
+use Rattle.std.proofs.{Common.{◌≡◌, None, get_or, arith}, lemmas.Grind.common_steps}
 use Rattle.mh_heap.proofs.PlainLemmas.{closed_got}
 use Rattle.mh_heap.proofs.plain.PlainHeapHeap.get.Goals as goal
 

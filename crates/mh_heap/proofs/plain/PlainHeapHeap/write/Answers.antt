@@ -1,5 +1,4 @@
-use Rattle.std.proofs.Common.{arith}
-use Rattle.std.proofs.lemmas.Grind.{common_steps}
+use Rattle.std.proofs.{Common.arith, lemmas.Grind.common_steps}
 use Rattle.mh_model.specs.World.{heap_step, with_number}
 use Rattle.mh_heap.proofs.PlainLemmas.{closed_number, map_change}
 use Rattle.mh_heap.proofs.plain.PlainHeapHeap.write.Goals as goal

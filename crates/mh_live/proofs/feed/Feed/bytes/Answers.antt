@@ -1,5 +1,4 @@
-use Rattle.std.proofs.Common.{rules, ◌∙◌, [], ◌∷◌, ◌++◌, append-nil, refl}
-use Rattle.std.proofs.lemmas.Result.{err_from_is_err_and}
+use Rattle.std.proofs.{Common.{rules, ◌∙◌, [], ◌∷◌, ◌++◌, append-nil, refl}, lemmas.Result.err_from_is_err_and}
 use Rattle.mh_live.proofs.FeedLemmas.{fed_line, fed_rest, fed_untold, some_in_line, some_stopped, taken_line}
 use Rattle.mh_live.proofs.feed.Feed.bytes.Goals as goal
 

@@ -1,8 +1,7 @@
 use Rattle.std.proofs.Common.{◌≤◌, ◌+◌, arith}
 use Rattle.mh_heap.proofs.BirthLemmas.{births_performed}
 use Rattle.mh_heap.specs.PlainHeap.{world_of}
-use Rattle.mh_model.specs.Limits.{most_events}
-use Rattle.mh_model.specs.World.{births, never_full}
+use Rattle.mh_model.specs.{Limits.most_events, World.{births, never_full}}
 use Rattle.mh_live.proofs.growing.GrowingWorld.command.Goals as goal
 
 pub invariant_of-self : goal.invariant_of-self

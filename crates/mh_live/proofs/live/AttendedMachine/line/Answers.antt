@@ -1,7 +1,7 @@
 use Rattle.std.proofs.Common.{rules, sym, refl}
 use Rattle.mh_live.proofs.LineTurns.{asks_runs, asks_says, blank_runs, blank_says, calls_runs, calls_says, line-name, wrong_runs}
-use Rattle.mh_live.proofs.live.AttendedMachine.line.Goals as goal
 use Rattle.mh_live.proofs.live.AttendedMachine.line.Goals.{then-branch, else-branch}
+use Rattle.mh_live.proofs.live.AttendedMachine.line.Goals as goal
 
 pub see-requires : goal.see-requires
 see-requires g c = line-name c.args.line.now c.in-Calls.name.now c.in-Calls.command (search rules)

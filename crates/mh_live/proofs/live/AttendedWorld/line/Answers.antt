@@ -1,7 +1,7 @@
 use Rattle.std.proofs.Common.{rules, sym, refl}
 use Rattle.mh_live.proofs.LineTurns.{asks_grows, blank_grows, blank_says, calls_grows, line-name, wrong_grows}
-use Rattle.mh_live.proofs.live.AttendedWorld.line.Goals as goal
 use Rattle.mh_live.proofs.live.AttendedWorld.line.Goals.{then-branch, else-branch}
+use Rattle.mh_live.proofs.live.AttendedWorld.line.Goals as goal
 
 pub see-requires : goal.see-requires
 see-requires c = line-name c.args.line.now c.in-Calls.name.now c.in-Calls.command (search rules)

@@ -1,11 +1,10 @@
 use Rattle.std.proofs.Common.{◌≡◌, ◌++◌, [], ℕ, List, Option, Some, ap, sym, ◌∙◌, subst}
 use Rattle.std.specs.Option.{option_to_list}
 use Rattle.mh_model.specs.History.{owned_by}
-use Rattle.mh_seat_laws.specs.declared.seat_view.Found.{Found}
+use Rattle.mh_seat_laws.specs.declared.seat_view.FoundValue.{FoundValue}
 use Rattle.mh_lock.specs.Seats.{entry_of_call}
 use Rattle.mh_lock.specs.Steps.{number_in, log_in, held, held_origin, found_of, holding, Grows, WasAtHome}
-use Rattle.mh_lock.proofs.CalledLocks.{entries-answered, entry-owned, owned-more, taken-given}
-use Rattle.mh_lock.proofs.LockSteps.{answer-grows}
+use Rattle.mh_lock.proofs.{CalledLocks.{entries-answered, entry-owned, owned-more, taken-given}, LockSteps.answer-grows}
 use Rattle.mh_lock.proofs.LockSeats.{can_give-grown}
 use Rattle.mh_lock.proofs.lock.Lock.call.Goals as goal
 
@@ -19,7 +18,7 @@ give-requires-clause-holding g c =
     let taken = c.take.ensures.taken in
     let run = c.run_on-answer in
     let value = run.ensures.held.0 in
-    let found : Found g.row.E.Denot g.row.T-Origin.Denot = found_of entries origin taken.0 in
+    let found : FoundValue g.row.E.Denot g.row.T-Origin.Denot = found_of entries origin taken.0 in
     let mine : c.args.seat.now.number ≡ number = sym (ap (λ me. number_in me) c.seat.invariant ∙ ap (λ view. view.number) c.seat.view_is) in
     let grows : Grows owner number (held entries c.take.new.seat.me.1) (held entries run.new.seat.me.1)
     = answer-grows owner number (held entries c.take.new.seat.me.1) (held entries run.new.seat.me.1) run.result (g.W.Work.entry c.args.work) run.ensures.ok run.ensures.err (λ reply. c.requires.owned reply ∙ mine) in

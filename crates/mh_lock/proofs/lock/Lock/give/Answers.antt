@@ -1,8 +1,7 @@
 use Rattle.std.proofs.Common.{arith, ap, sym, ◌∙◌, subst}
 use mathlib.Core.Option.{none}
 use Rattle.atomic_table.specs.Table.{Me, Allows, step}
-use Rattle.mh_seat_laws.specs.Lock.{IsLocked}
-use Rattle.mh_seat_laws.specs.declared.seat_view.SeatView.{SeatView}
+use Rattle.mh_seat_laws.specs.{Lock.IsLocked, declared.seat_view.SeatView.SeatView}
 use Rattle.mh_lock.specs.Steps.{number_in, log_in, Gives}
 use Rattle.mh_lock.proofs.LockSteps.{give-allowed}
 use Rattle.mh_lock.proofs.lock.Lock.give.Goals as goal

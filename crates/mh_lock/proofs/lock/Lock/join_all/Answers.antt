@@ -1,13 +1,10 @@
 use Rattle.std.proofs.Common.{arith, ◌≡◌, ◌∷◌, ◌++◌, [], Some, append-nil, ap, ◌∙◌, sym, subst}
-use Rattle.std.proofs.lemmas.List.Elements.{All-pop}
-use Rattle.std.proofs.lemmas.List.{nil_from_length}
+use Rattle.std.proofs.{lemmas.List.Elements.All-pop, lemmas.List.nil_from_length}
 use mathlib.Core.Option.{some-injective}
 use Rattle.atomic_table.specs.Table.{Seen}
 use Rattle.mh_seat_laws.specs.Lock.{IsLocked}
-use Rattle.mh_lock.specs.Seats.{LockSeatView, IsOf}
-use Rattle.mh_lock.specs.Steps.{alone}
-use Rattle.mh_lock.proofs.LockSteps.{join-kept}
-use Rattle.mh_lock.proofs.ClosedLocks.{logs_of, logs_of-pop, Tells, closed-tells}
+use Rattle.mh_lock.specs.{Seats.{LockSeatView, IsOf}, Steps.alone}
+use Rattle.mh_lock.proofs.{LockSteps.join-kept, ClosedLocks.{logs_of, logs_of-pop, Tells, closed-tells}}
 use Rattle.mh_lock.proofs.lock.Lock.join_all.Goals as goal
 
 pub loop-before-init : goal.loop-before-init

@@ -1,8 +1,6 @@
 use Rattle.std.proofs.Common.{arith, ◌≡◌, ◌-◌, ◌+◌, ℕ, suc, [], ◌∷◌, ◌++◌, None, ap, sym, ◌∙◌, refl}
-use Rattle.mh_lock.specs.Seats.{LockView, LockSeatView, new_seat}
-use Rattle.mh_lock.specs.Steps.{seat_view, empty_logs}
-use Rattle.mh_lock.proofs.LockSteps.{opening-locked, split-kept}
-use Rattle.mh_lock.proofs.LockSeats.{rest-of_split, each-push}
+use Rattle.mh_lock.specs.{Seats.{LockView, LockSeatView, new_seat}, Steps.{seat_view, empty_logs}}
+use Rattle.mh_lock.proofs.{LockSteps.{opening-locked, split-kept}, LockSeats.{rest-of_split, each-push}}
 use Rattle.mh_lock.proofs.lock.Lock.open.Goals as goal
 
 pub new-requires : goal.new-requires

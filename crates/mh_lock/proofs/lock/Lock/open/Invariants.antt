@@ -1,6 +1,5 @@
 use Rattle.std.proofs.Common.{◌≡◌, ◌+◌, ◌<◌, ℕ, suc, [], None, vec_len, get_or}
-use Rattle.mh_lock.specs.Seats.{LockSeatView, new_seat}
-use Rattle.mh_lock.specs.Steps.{seat_view, empty_logs}
+use Rattle.mh_lock.specs.{Seats.{LockSeatView, new_seat}, Steps.{seat_view, empty_logs}}
 use Rattle.mh_lock.proofs.lock.Lock.open.Given as goal
 
 abbrev pub invariant-loop-number : goal.invariant-loop-number

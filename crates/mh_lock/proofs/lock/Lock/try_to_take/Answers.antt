@@ -2,8 +2,7 @@ use Rattle.std.proofs.Common.{arith, ◌≡◌, ℕ, eqb, Option, Some, ap, sym,
 use mathlib.Core.Option.{none}
 use prog.Atomic.{either}
 use Rattle.atomic_table.specs.Table.{Me, Allows, step}
-use Rattle.mh_seat_laws.specs.Lock.{IsLocked}
-use Rattle.mh_seat_laws.specs.declared.seat_view.SeatView.{SeatView}
+use Rattle.mh_seat_laws.specs.{Lock.IsLocked, declared.seat_view.SeatView.SeatView}
 use Rattle.mh_lock.specs.Steps.{number_in, log_in, Takes}
 use Rattle.mh_lock.proofs.LockSteps.{take-allowed}
 use Rattle.mh_lock.proofs.lock.Lock.try_to_take.Goals as goal

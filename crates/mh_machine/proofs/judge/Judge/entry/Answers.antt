@@ -1,6 +1,6 @@
 use Rattle.mh_machine.proofs.JudgeLemmas.{seen_right, seen_settled, seen_wrong}
-use Rattle.mh_machine.proofs.judge.Judge.entry.Goals as goal
 use Rattle.mh_machine.proofs.judge.Judge.entry.Goals.{else-is_none-via-then-is_none+in_ok-try_on+else-not-branch, else-is_none-via-else-is_none}
+use Rattle.mh_machine.proofs.judge.Judge.entry.Goals as goal
 
 pub returns-then-not-branch-clause-seen : goal.returns-then-not-branch-clause-seen
 returns-then-not-branch-clause-seen g c = rw (← c.self.view_is) (λ config seen has.

@@ -1,5 +1,4 @@
-use Rattle.mh_model.specs.History.{IsLegal}
-use Rattle.mh_model.specs.HistoryTexts.{IsLegalRecord}
+use Rattle.mh_model.specs.{History.IsLegal, HistoryTexts.IsLegalRecord}
 use Rattle.mh_run_laws.proofs.runs.RunsByEvents.{replies_more}
 use Rattle.mh_machine.specs.Judging.{HasItsReply, IsMeasured}
 use Rattle.mh_machine.specs.Rules.{event_of, legal_rule, measured_event, record_rule}

@@ -1,8 +1,8 @@
 use Rattle.std.proofs.Common.{sym, subst, arith}
 use Rattle.mh_machine.specs.Judging.{HasSeen}
 use Rattle.mh_machine.proofs.JudgeLemmas.{found_first, found_none, shown_all, shown_more}
-use Rattle.mh_machine.proofs.judge.Judge.settle.Goals as goal
 use Rattle.mh_machine.proofs.judge.Judge.settle.Goals.{in-Some, in-None}
+use Rattle.mh_machine.proofs.judge.Judge.settle.Goals as goal
 
 pub loop-entry-init : goal.loop-entry-init
 loop-entry-init g c = λ config first. first

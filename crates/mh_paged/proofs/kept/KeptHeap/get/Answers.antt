@@ -1,10 +1,8 @@
 use Rattle.std.proofs.Common.{ap, rules, arith}
-use Rattle.mh_model.specs.declared.command.Command.TheVariants as command
-use Rattle.mh_model.specs.declared.reply.Reply.TheVariants as reply
-use Rattle.mh_model.specs.Mutator.{HeapState, heap_effect, mutator_step}
+use Rattle.mh_model.specs.{Mutator.{HeapState, heap_effect, mutator_step}, declared.command.Command.Command}
+use Rattle.mh_model.specs.declared.reply.Reply.{Reply}
 use Rattle.mh_paged.specs.Kept.{heap_of}
-use Rattle.mh_paged.proofs.FieldLemmas.{field-leads}
-use Rattle.mh_paged.proofs.KeptLemmas.{found-field, keeps-each, kept-after}
+use Rattle.mh_paged.proofs.{FieldLemmas.field-leads, KeptLemmas.{found-field, keeps-each, kept-after}}
 use Rattle.mh_paged.proofs.kept.KeptHeap.get.Goals as goal
 
 pub loaded-reference-requires-clause-findable : goal.loaded-reference-requires-clause-findable
@@ -28,8 +26,8 @@ loaded-reference-requires-clause-leads c =
 
 pub invariant_of-self : goal.invariant_of-self
 unfolding mutator_step heap_effect
-invariant_of-self c = kept-after c.laws_of_commands.ensures.kept c.laws_of_commands.ensures.bounds _ _ _ _ _ _ c.self.invariant (ap (λ s. s.config) c.write_root.ensures) c.args.who (command.Get c.args.slot c.args.source c.args.field) reply.Done (search rules)
+invariant_of-self c = kept-after c.laws_of_commands.ensures.kept c.laws_of_commands.ensures.bounds _ _ _ _ _ _ c.self.invariant (ap (λ s. s.config) c.write_root.ensures) c.args.who (Command.Get c.args.slot c.args.source c.args.field) Reply.Done (search rules)
 
 pub returns-clause-keeps : goal.returns-clause-keeps
 unfolding mutator_step heap_effect
-returns-clause-keeps c = keeps-each c.laws_of_commands.ensures.snapshot c.args.self.now (heap_of c.write_root.new.cycle c.self.inside.next_birth c.self.inside.ended) c.args.who (command.Get c.args.slot c.args.source c.args.field) reply.Done (search rules)
+returns-clause-keeps c = keeps-each c.laws_of_commands.ensures.snapshot c.args.self.now (heap_of c.write_root.new.cycle c.self.inside.next_birth c.self.inside.ended) c.args.who (Command.Get c.args.slot c.args.source c.args.field) Reply.Done (search rules)

@@ -1,7 +1,5 @@
-use Rattle.mh_model.specs.Mutator.{HeapState}
-use Rattle.mh_model.specs.View.{heap_view}
-use Rattle.mh_laws.proofs.snapshots.CycleStarts.{births-view}
-use Rattle.mh_laws.proofs.runs.EveryMoment.{config-mutator_step}
+use Rattle.mh_model.specs.{Mutator.HeapState, View.heap_view}
+use Rattle.mh_laws.proofs.{snapshots.CycleStarts.births-view, runs.EveryMoment.config-mutator_step}
 use Rattle.mh_paged.specs.Kept.{heap_of}
 use Rattle.mh_paged.proofs.kept.KeptHeap.lawful.Goals as goal
 

@@ -1,11 +1,9 @@
 use Rattle.std.proofs.Common.{ap, rules, arith}
-use Rattle.mh_model.specs.declared.command.Command.TheVariants as command
-use Rattle.mh_model.specs.declared.reply.Reply.TheVariants as reply
-use Rattle.mh_model.specs.Mutator.{HeapState, heap_effect, mutator_step}
+use Rattle.mh_model.specs.{Mutator.{HeapState, heap_effect, mutator_step}, declared.command.Command.Command}
+use Rattle.mh_model.specs.declared.reply.Reply.{Reply}
 use Rattle.mh_paged.specs.Kept.{heap_of}
 use Rattle.mh_table_laws.proofs.marking.BatchMarking.{leads_of}
-use Rattle.mh_paged.proofs.FieldLemmas.{field-original}
-use Rattle.mh_paged.proofs.KeptLemmas.{found-field, keeps-each, kept-after}
+use Rattle.mh_paged.proofs.{FieldLemmas.field-original, KeptLemmas.{found-field, keeps-each, kept-after}}
 use Rattle.mh_paged.proofs.kept.KeptHeap.put.Goals as goal
 
 pub place_of-at-requires : goal.place_of-at-requires
@@ -33,8 +31,8 @@ write_reference-requires-clause-leads c =
 
 pub invariant_of-self : goal.invariant_of-self
 unfolding mutator_step heap_effect
-invariant_of-self c = kept-after c.laws_of_commands.ensures.kept c.laws_of_commands.ensures.bounds _ _ _ _ _ _ c.self.invariant (ap (λ s. s.config) c.write_reference.ensures) c.args.who (command.Put c.args.slot c.args.field c.args.value) reply.Done (search rules)
+invariant_of-self c = kept-after c.laws_of_commands.ensures.kept c.laws_of_commands.ensures.bounds _ _ _ _ _ _ c.self.invariant (ap (λ s. s.config) c.write_reference.ensures) c.args.who (Command.Put c.args.slot c.args.field c.args.value) Reply.Done (search rules)
 
 pub returns-clause-keeps : goal.returns-clause-keeps
 unfolding mutator_step heap_effect
-returns-clause-keeps c = keeps-each c.laws_of_commands.ensures.snapshot c.args.self.now (heap_of c.write_reference.new.cycle c.self.inside.next_birth c.self.inside.ended) c.args.who (command.Put c.args.slot c.args.field c.args.value) reply.Done (search rules)
+returns-clause-keeps c = keeps-each c.laws_of_commands.ensures.snapshot c.args.self.now (heap_of c.write_reference.new.cycle c.self.inside.next_birth c.self.inside.ended) c.args.who (Command.Put c.args.slot c.args.field c.args.value) Reply.Done (search rules)

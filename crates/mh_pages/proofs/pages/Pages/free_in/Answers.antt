@@ -1,8 +1,7 @@
 use Rattle.std.proofs.Common.{◌/◌, ◌∙◌, ap, sym}
 use Rattle.std.specs.Int.Count.{ones}
 use Rattle.mh_pages.specs.FreePlaces.{free_in}
-use Rattle.mh_pages.proofs.ShownLemmas.{page_at-shown}
-use Rattle.mh_pages.proofs.FreePlaceLemmas.{free_in-free, free_in-other, free_in-class}
+use Rattle.mh_pages.proofs.{ShownLemmas.page_at-shown, FreePlaceLemmas.{free_in-free, free_in-other, free_in-class}}
 use Rattle.mh_pages.proofs.KeptLemmas.{inside_of}
 use Rattle.mh_pages.proofs.pages.Pages.free_in.Goals as goal
 

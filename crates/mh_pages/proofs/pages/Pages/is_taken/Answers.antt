@@ -1,7 +1,5 @@
-use Rattle.std.proofs.Common.{◌/◌, ◌∙◌, ap, sym, arith, get_or}
-use Rattle.std.proofs.lemmas.Bool.{lt-leb}
-use Rattle.mh_pages.proofs.ShownLemmas.{not_taken, bit_told}
-use Rattle.mh_pages.proofs.WriteLemmas.{block_fits, fits_slot}
+use Rattle.std.proofs.{Common.{◌/◌, ◌∙◌, ap, sym, arith, get_or}, lemmas.Bool.lt-leb}
+use Rattle.mh_pages.proofs.{ShownLemmas.{not_taken, bit_told}, WriteLemmas.{block_fits, fits_slot}}
 use Rattle.mh_pages.proofs.pages.Pages.is_taken.Goals as goal
 
 pub returns-then-page-len : goal.returns-then-page-len

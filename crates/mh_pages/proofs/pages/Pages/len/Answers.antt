@@ -1,6 +1,5 @@
 use Rattle.std.proofs.Common.{◌∙◌, length, ap, sym}
-use Rattle.mh_pages.proofs.ShownLemmas.{length-shown}
-use Rattle.mh_pages.proofs.KeptLemmas.{their_slots}
+use Rattle.mh_pages.proofs.{ShownLemmas.length-shown, KeptLemmas.their_slots}
 use Rattle.mh_pages.proofs.pages.Pages.len.Goals as goal
 
 pub returns-clause-count : goal.returns-clause-count

@@ -1,10 +1,7 @@
 use Rattle.std.proofs.Common.{◌/◌, ◌∙◌, ap, sym, arith, get_or, option_map, unwrap_or}
 use Rattle.std.specs.Int.Count.{ones}
-use Rattle.mh_model.specs.Classes.{slots_in}
-use Rattle.mh_model.specs.Pages.{live_in}
-use Rattle.mh_pages.proofs.ShownLemmas.{page_at-shown}
-use Rattle.mh_pages.proofs.LiveLemmas.{live-shown, live-free}
-use Rattle.mh_pages.proofs.KeptLemmas.{inside_of}
+use Rattle.mh_model.specs.{Classes.slots_in, Pages.live_in}
+use Rattle.mh_pages.proofs.{ShownLemmas.page_at-shown, LiveLemmas.{live-shown, live-free}, KeptLemmas.inside_of}
 use Rattle.mh_pages.proofs.pages.Pages.live_in.Goals as goal
 
 pub read-head-requires-clause-within : goal.read-head-requires-clause-within

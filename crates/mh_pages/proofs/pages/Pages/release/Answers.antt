@@ -1,5 +1,4 @@
-use Rattle.std.proofs.Common.{arith}
-use Rattle.std.proofs.lemmas.List.{set-set}
+use Rattle.std.proofs.{Common.arith, lemmas.List.set-set}
 use Rattle.mh_model.specs.Pages.{page_number}
 use Rattle.mh_pages.proofs.TableLemmas.{count_after}
 use Rattle.mh_pages.proofs.pages.Pages.release.Goals as goal

@@ -1,7 +1,6 @@
 use Rattle.std.proofs.Common.{length, ap, sym, subst, arith}
 use Rattle.mh_pages.specs.Words.{words_at}
-use Rattle.mh_pages.proofs.KeptLemmas.{header_words}
-use Rattle.mh_pages.proofs.HeaderLemmas.{HasHeader, header_after}
+use Rattle.mh_pages.proofs.{KeptLemmas.header_words, HeaderLemmas.{HasHeader, header_after}}
 use Rattle.mh_pages.proofs.pages.Pages.set_header.Goals as goal
 
 pub set_word_from-requires-clause-within : goal.set_word_from-requires-clause-within

@@ -1,6 +1,5 @@
 use Rattle.std.proofs.Common.{arith}
-use Rattle.mh_pages.proofs.KeptLemmas.{size_used}
-use Rattle.mh_pages.proofs.TakenLemmas.{place_taken, block_within, kept-cleared, cleared_shown}
+use Rattle.mh_pages.proofs.{KeptLemmas.size_used, TakenLemmas.{place_taken, block_within, kept-cleared, cleared_shown}}
 use Rattle.mh_pages.proofs.pages.Pages.take.Goals as goal
 
 pub start_of-first-requires-clause-page : goal.start_of-first-requires-clause-page

@@ -1,6 +1,5 @@
 use Rattle.std.proofs.Common.{◌∙◌, sym, subst, ◌<◌, ◌^◌}
-use Rattle.mh_pages.proofs.KeptLemmas.{inside_of}
-use Rattle.mh_pages.proofs.SlotLemmas.{no_slots_told, slots_told}
+use Rattle.mh_pages.proofs.{KeptLemmas.inside_of, SlotLemmas.{no_slots_told, slots_told}}
 use Rattle.mh_pages.proofs.pages.Pages.taken_slots.Goals as goal
 
 pub read-head-requires-clause-within : goal.read-head-requires-clause-within

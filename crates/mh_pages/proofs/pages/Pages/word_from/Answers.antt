@@ -1,7 +1,6 @@
 use Rattle.std.proofs.Common.{◌+◌, ◌∙◌, ap, sym, arith, get_or}
 use Rattle.mh_pages.specs.Words.{words_at}
-use Rattle.mh_pages.proofs.ShownLemmas.{word-shown}
-use Rattle.mh_pages.proofs.KeptLemmas.{word_of, word_within, word_at}
+use Rattle.mh_pages.proofs.{ShownLemmas.word-shown, KeptLemmas.{word_of, word_within, word_at}}
 use Rattle.mh_pages.proofs.pages.Pages.word_from.Goals as goal
 
 pub overflow_add-address-inside : goal.overflow_add-address-inside

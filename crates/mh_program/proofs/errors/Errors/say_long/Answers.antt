@@ -1,5 +1,5 @@
 use Rattle.std.proofs.Common.{◌≡◌, ◌∙◌, Option, sym, subst}
-use Rattle.mh_show.specs.OfCurve.LongPause.{LongPause}
+use Rattle.mh_window_curve.specs.declared.promises.LongPause.{LongPause}
 use Rattle.mh_program.specs.Complaints.{Says, SaysFound, pause_text}
 use Rattle.mh_program.proofs.errors.Errors.say_long.Goals as goal
 

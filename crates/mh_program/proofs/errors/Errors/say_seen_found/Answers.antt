@@ -1,5 +1,5 @@
 use Rattle.std.proofs.Common.{sym, subst}
-use Rattle.mh_log.specs.OfSessions.Judgements.{HistoryJudgement}
+use Rattle.mh_judge.specs.Judgements.{HistoryJudgement}
 use Rattle.mh_program.specs.Complaints.{SaysJudgement}
 use Rattle.mh_program.proofs.TellingLemmas.{quotes}
 use Rattle.mh_program.proofs.errors.Errors.say_seen_found.Goals as goal

@@ -1,5 +1,5 @@
 use Rattle.std.proofs.Common.{◌≡◌, ◌∙◌, Option, sym, subst}
-use Rattle.mh_show.specs.OfCurve.ShortStretch.{ShortStretch}
+use Rattle.mh_window_curve.specs.declared.promises.ShortStretch.{ShortStretch}
 use Rattle.mh_program.specs.Complaints.{Says, SaysFound, stretch_text}
 use Rattle.mh_program.proofs.errors.Errors.say_short.Goals as goal
 

@@ -1,6 +1,5 @@
 use Rattle.std.proofs.Common.{◌≡◌, ◌∙◌, ◌+◌, ◌-◌, ◌++◌, suc, replicate, ap, arith, slice_index_or}
-use Rattle.mh_report.specs.declared.segment.Segment.{Segment}
-use Rattle.mh_report.specs.declared.segment.Unit.TheVariants.{Mutator}
+use Rattle.mh_report.specs.{declared.segment.Segment.Segment, declared.segment.Unit.TheVariants.Mutator}
 use Rattle.mh_report.specs.Segments.{letter_of, letters_after}
 use Rattle.mh_report.proofs.PointLemmas.{inside_list, inside_segment, is_inside, after_passed, after_last, after_end, inside_next}
 use Rattle.mh_report.proofs.point.Point.pass.Goals as goal

@@ -1,8 +1,6 @@
 use Rattle.std.proofs.Common.{ap, sym, arith, length}
-use Rattle.mh_report.specs.Kept.{KeptTrace}
-use Rattle.mh_report.specs.Segments.{letters_of}
-use Rattle.mh_report.proofs.SegmentLemmas.{counts_whole}
-use Rattle.mh_report.proofs.WalkLemmas.{least_none}
+use Rattle.mh_report.specs.{Kept.KeptTrace, Segments.letters_of}
+use Rattle.mh_report.proofs.{SegmentLemmas.counts_whole, WalkLemmas.least_none}
 use Rattle.mh_report.proofs.trace.Trace.resume_least_mutator.Goals as goal
 
 pub returns-then-window-letters-clause-value : goal.returns-then-window-letters-clause-value

@@ -1,8 +1,6 @@
 use Rattle.std.proofs.Common.{ap, subst, sym, arith, length}
-use Rattle.mh_report.specs.Kept.{KeptTrace}
-use Rattle.mh_report.specs.Segments.{letters_of}
-use Rattle.mh_report.proofs.SegmentLemmas.{counts_whole}
-use Rattle.mh_report.proofs.SlideLemmas.{passings_none, some_segment}
+use Rattle.mh_report.specs.{Kept.KeptTrace, Segments.letters_of}
+use Rattle.mh_report.proofs.{SegmentLemmas.counts_whole, SlideLemmas.{passings_none, some_segment}}
 use Rattle.mh_report.proofs.trace.Trace.slide.Goals as goal
 
 pub returns-then-letters-eq0 : goal.returns-then-letters-eq0

@@ -1,7 +1,6 @@
 use Rattle.std.proofs.Common.{ap, arith, take}
 use Rattle.mh_model.specs.Trace.{mutator_count}
-use Rattle.mh_report.specs.Kept.{KeptTrace}
-use Rattle.mh_report.specs.Segments.{letters_of}
+use Rattle.mh_report.specs.{Kept.KeptTrace, Segments.letters_of}
 use Rattle.mh_report.proofs.trace.Trace.units_in_first.Goals as goal
 
 pub returns : goal.returns

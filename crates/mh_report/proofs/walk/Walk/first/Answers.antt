@@ -1,8 +1,6 @@
-use Rattle.std.proofs.Common.{◌≡◌, ◌∙◌, length, take, drop, ap, refl, arith}
-use Rattle.std.proofs.lemmas.List.{length-drop}
+use Rattle.std.proofs.{Common.{◌≡◌, ◌∙◌, length, take, drop, ap, refl, arith}, lemmas.List.length-drop}
 use Rattle.mh_model.specs.Trace.{mutator_count}
-use Rattle.mh_report.specs.Segments.{letter_of, letters_of}
-use Rattle.mh_report.specs.Points.{after}
+use Rattle.mh_report.specs.{Segments.{letter_of, letters_of}, Points.after}
 use Rattle.mh_report.proofs.WalkLemmas.{take_alike, drop_alike, length-alike, units_within, kept_first}
 use Rattle.mh_report.proofs.PointLemmas.{inside_first, after_first}
 use Rattle.mh_report.proofs.walk.Walk.first.Goals as goal

@@ -1,8 +1,5 @@
 use Rattle.std.proofs.Common.{◌≡◌, ◌∙◌, ◌+◌, ◌-◌, ◌++◌, replicate, length, ap, arith}
-use Rattle.mh_report.specs.declared.walk.Walk.{Walk}
-use Rattle.mh_report.specs.Segments.{letter_of}
-use Rattle.mh_report.specs.Walk.{mutator_units}
-use Rattle.mh_report.specs.Points.{after}
+use Rattle.mh_report.specs.{declared.walk.Walk.Walk, Segments.letter_of, Walk.mutator_units, Points.after}
 use Rattle.mh_report.proofs.WalkLemmas.{length-alike, units_within, alike-parts, kept_slides}
 use Rattle.mh_report.proofs.walk.Walk.over.Goals as goal
 

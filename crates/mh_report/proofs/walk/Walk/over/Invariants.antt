@@ -1,8 +1,6 @@
 use Rattle.std.proofs.Common.{◌≡◌, ◌+◌, ◌-◌, ◌≤◌, ◌++◌, List, length, replicate}
 use Rattle.mh_model.specs.Trace.{Letter}
-use Rattle.mh_report.specs.Segments.{letter_of}
-use Rattle.mh_report.specs.Walk.{HasSlid}
-use Rattle.mh_report.specs.Points.{IsPoint, after}
+use Rattle.mh_report.specs.{Segments.letter_of, Walk.HasSlid, Points.{IsPoint, after}}
 use Rattle.mh_report.proofs.walk.Walk.over.Given as goal
 
 abbrev pub invariant-loop-left : goal.invariant-loop-left

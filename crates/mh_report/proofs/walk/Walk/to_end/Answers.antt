@@ -1,7 +1,5 @@
 use Rattle.std.proofs.Common.{◌≡◌, ◌∙◌, [], length, ap, arith}
-use Rattle.mh_report.specs.declared.walk.Walk.{Walk}
-use Rattle.mh_report.specs.Segments.{letter_of, letters_of}
-use Rattle.mh_report.specs.Points.{after}
+use Rattle.mh_report.specs.{declared.walk.Walk.Walk, Segments.{letter_of, letters_of}, Points.after}
 use Rattle.mh_report.proofs.WalkLemmas.{length-alike, kept_answer, no_letters}
 use Rattle.mh_report.proofs.walk.Walk.to_end.Goals as goal
 

@@ -1,7 +1,6 @@
 use Rattle.std.proofs.Common.{◌∙◌, ap, subst, sym, arith, is_ok}
 use Rattle.std.specs.List.{All}
-use Rattle.mh_report.specs.declared.walk.Walk.{Walk}
-use Rattle.mh_report.specs.Walks.{IsWalk, AreInOrder, HasWalk}
+use Rattle.mh_report.specs.{declared.walk.Walk.Walk, Walks.{IsWalk, AreInOrder, HasWalk}}
 use Rattle.mh_report.proofs.OrderLemmas.{at-position, all-inserted, order-inserted, has-inserted}
 use Rattle.mh_report.proofs.walks.Walks.keep.Goals.{else-number-count-via-then-number-count+else-index-walk, else-number-count-via-else-number-count}
 use Rattle.mh_report.proofs.walks.Walks.keep.Goals as goal

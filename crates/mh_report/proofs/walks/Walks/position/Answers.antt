@@ -1,8 +1,6 @@
-use Rattle.std.proofs.Common.{rules, arith}
-use Rattle.std.specs.Prelude.{◌≡◌, nat_lt, true, false}
-use Rattle.std.specs.List.Sorted.{IsPartitionPoint}
-use Rattle.std.proofs.lemmas.Bool.{ltb-true, ltb-false}
+use Rattle.std.proofs.{Common.{rules, arith}, lemmas.Bool.{ltb-true, ltb-false}}
 use Rattle.std.proofs.lemmas.List.Sorted.{IsPartitionPoint-from_clause, IsPartitionedBy-ltb}
+use Rattle.std.specs.{Prelude.{◌≡◌, nat_lt, true, false}, List.Sorted.IsPartitionPoint}
 use Rattle.mh_report.specs.declared.walk.Walk.{Walk}
 use Rattle.mh_report.proofs.walks.Walks.position.Goals as goal
 

@@ -1,11 +1,8 @@
-use Rattle.std.proofs.Common.{◌≡◌, false, ap, sym, ◌∙◌, subst, inl, arith}
-use Rattle.std.specs.Prelude.{OnOk, Result, Ok, Err, is_err}
-use Rattle.std.proofs.lemmas.Bool.{true≢false}
+use Rattle.std.proofs.{Common.{◌≡◌, false, ap, sym, ◌∙◌, subst, inl, arith}, lemmas.Bool.true≢false}
 use Rattle.std.proofs.lemmas.Result.{err_from_is_err_and}
+use Rattle.std.specs.Prelude.{OnOk, Result, Ok, Err, is_err}
 use Rattle.mh_lock.specs.Seats.{LockSeatView}
-use Rattle.mh_model.specs.declared.history.Entry.{Entry}
-use Rattle.mh_model.specs.declared.reply.Reply.{Reply}
-use Rattle.mh_model.specs.History.{owner_of, owned_by}
+use Rattle.mh_model.specs.{declared.history.Entry.Entry, declared.reply.Reply.Reply, History.{owner_of, owned_by}}
 use Rattle.mh_service.specs.Sharing.{IsDone}
 use Rattle.mh_service.proofs.SharedStates.{call-served}
 use Rattle.mh_service.proofs.service.Service.call.Goals as goal

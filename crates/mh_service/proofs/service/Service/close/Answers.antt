@@ -1,8 +1,7 @@
 use Rattle.std.proofs.Common.{arith, ◌≡◌, ◌∙◌, ap, sym, subst, All}
 use Rattle.mh_model.specs.History.{owner_of, owned_by}
-use Rattle.mh_service.proofs.ClosedServices.{closed-machine}
+use Rattle.mh_service.proofs.{ClosedServices.closed-machine, SharedStates.closed-merged}
 use Rattle.mh_service.specs.Services.{AreMerged}
-use Rattle.mh_service.proofs.SharedStates.{closed-merged}
 use Rattle.mh_service.proofs.service.Service.close.Goals as goal
 
 pub returns-in-Ok-clause-legal : goal.returns-in-Ok-clause-legal

@@ -1,6 +1,5 @@
 use Rattle.std.proofs.Common.{◌≡◌, ◌∙◌, ◌+◌, ◌-◌, sym, arith}
-use Rattle.mh_report.specs.Segments.{letter_of}
-use Rattle.mh_report.specs.Walk.{mutator_units}
+use Rattle.mh_report.specs.{Segments.letter_of, Walk.mutator_units}
 use Rattle.mh_windows.specs.Lowest.{LowestState}
 use Rattle.mh_windows.proofs.LowestLemmas.{pass_higher, pass_lower, slides_alike}
 use Rattle.mh_windows.proofs.lowest.SlidingSlider.pass.Goals.{then-self, else-self}

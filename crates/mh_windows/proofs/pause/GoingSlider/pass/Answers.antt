@@ -1,7 +1,6 @@
 use Rattle.std.proofs.Common.{subst}
 use Rattle.std.specs.Prelude.{◌-◌, ◌+◌}
-use Rattle.mh_report.specs.Segments.{letter_of}
-use Rattle.mh_report.specs.Slides.{alike}
+use Rattle.mh_report.specs.{Segments.letter_of, Slides.alike}
 use Rattle.mh_windows.specs.Pauses.{Goes, PauseState}
 use Rattle.mh_windows.proofs.PauseLemmas.{goes_alike}
 use Rattle.mh_windows.proofs.pause.GoingSlider.pass.Goals as goal

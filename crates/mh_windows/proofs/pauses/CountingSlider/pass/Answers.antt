@@ -1,7 +1,5 @@
 use Rattle.std.proofs.Common.{◌+◌, ◌-◌, ◌<◌, subst, sym, arith}
-use Rattle.mh_report.specs.declared.segment.Unit.{Unit as Side}
-use Rattle.mh_report.specs.Segments.{letter_of}
-use Rattle.mh_report.specs.Slides.{alike}
+use Rattle.mh_report.specs.{declared.segment.Unit.Unit as Side, Segments.letter_of, Slides.alike}
 use Rattle.mh_windows.specs.Lengths.{CountState, CountsOn}
 use Rattle.mh_windows.proofs.LengthLemmas.{counts_collector, counts_mutator}
 use Rattle.mh_windows.proofs.pauses.CountingSlider.pass.Goals as goal

@@ -1,9 +1,7 @@
 use Rattle.std.proofs.Common.{◌≡◌, ◌∙◌, ◌-◌, ap, not, None, sym, subst, arith}
-use Rattle.mh_report.specs.Segments.{letter_of}
-use Rattle.mh_report.specs.Slides.{alike}
+use Rattle.mh_report.specs.{Segments.letter_of, Slides.alike}
 use Rattle.mh_report.proofs.WalkLemmas.{units_within}
-use Rattle.mh_windows.specs.declared.share.Place.{Place}
-use Rattle.mh_windows.specs.Shares.{ShareState, Slides}
+use Rattle.mh_windows.specs.{declared.share.Place.Place, Shares.{ShareState, Slides}}
 use Rattle.mh_windows.proofs.ShareLemmas.{IsWorse, is_none, place_after, same_place, slides_found, slides_looked}
 use Rattle.mh_windows.proofs.share.SharingSlider.pass.Goals as goal
 

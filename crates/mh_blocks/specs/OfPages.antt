@@ -1,3 +1,0 @@
--- Modules of mh_pages that crates above name, so that they list this one alone.
-pub use Rattle.mh_pages.specs.FreePlaces
-pub use Rattle.mh_pages.specs.Addresses

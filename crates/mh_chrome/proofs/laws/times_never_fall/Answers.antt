@@ -1,5 +1,0 @@
-use Rattle.mh_chrome.proofs.RunLemmas.{within-run}
-use Rattle.mh_chrome.proofs.laws.times_never_fall.Goals as goal
-
-pub returns : goal.returns
-returns c = within-run

@@ -1,7 +1,0 @@
-pub mod PartLemmas
-pub mod WindowLemmas
-pub mod TallyLemmas
-pub mod ReasonLemmas
-pub mod RunLemmas
-pub mod PlaceLemmas
-pub mod OfScript

@@ -1,3 +1,0 @@
--- Modules of mh_script that crates above name, so that they list this one alone.
-pub use Rattle.mh_script.specs.Run
-pub use Rattle.mh_script.specs.Texts

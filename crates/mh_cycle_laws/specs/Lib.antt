@@ -1,2 +1,0 @@
-pub mod Cycles
-pub mod Laws

@@ -1,0 +1,11 @@
+pub mod Faults
+pub mod Judgements
+pub mod Histories
+pub mod Promised
+pub mod Judged
+pub mod Following
+pub mod Records
+pub mod Replaying
+pub mod ReplayRules
+pub mod TextRules
+pub mod PromisedRules

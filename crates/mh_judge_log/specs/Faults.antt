@@ -1,0 +1,21 @@
+-- What is wrong with the first bad entry of an order.
+use Rattle.std.specs.Prelude.{◌≡◌, ℕ, suc, List}
+use Rattle.mh_model.specs.declared.config.Rules.{Rules}
+use Rattle.mh_judge.specs.Faults.{HasFault}
+use Rattle.mh_judge_sessions.specs.Faults.{IsUnseenAfter}
+use Rattle.mh_judge_log.specs.declared.fault.OrderFault.{OrderFault}
+use Rattle.mh_judge_log.specs.{declared.fault.OrderFault.TheVariants.{Late, Unseen}, declared.timed.Timed.Timed}
+use Rattle.mh_judge_log.specs.{Orders.entries_of, Times.IsLateAfter}
+
+-- the command with a number, from 1, had ended before the one with another number began, which comes before it
+pub record IsLate (order : List Timed) (number earlier : ℕ) : Type 0 where
+  pub place : ℕ
+  pub before : ℕ
+  pub numbered : number ≡ suc place
+  pub earlier_is : earlier ≡ suc before
+  pub late : IsLateAfter order before place
+
+-- what a fault says of the entry of an order with this number
+abbrev pub IsOrderFault : Rules → List Timed → ℕ → OrderFault → Type 0
+IsOrderFault rules order number (Late earlier) = IsLate order number earlier
+IsOrderFault rules order number (Unseen fault) = HasFault (IsUnseenAfter rules) (entries_of order) number fault

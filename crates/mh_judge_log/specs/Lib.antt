@@ -1,0 +1,9 @@
+pub mod Logs
+pub mod Beginnings
+pub mod Times
+pub mod Orders
+pub mod Faults
+pub mod Reasons
+pub mod Judgements
+pub mod Linearizations
+pub mod Laws

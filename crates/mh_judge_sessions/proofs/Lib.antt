@@ -1,0 +1,11 @@
+pub mod RulesLemmas
+pub mod SeenLemmas
+pub mod LegalLemmas
+pub mod VerdictLemmas
+pub mod JudgeLemmas
+pub mod TextLemmas
+pub mod FullLemmas
+pub mod StrictLemmas
+pub mod ExplainedLemmas
+pub mod OpenedLemmas
+pub mod WatchLemmas

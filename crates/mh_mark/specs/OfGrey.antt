@@ -1,3 +1,0 @@
--- Modules of mh_grey that crates above name, so that they list this one alone.
-pub use Rattle.mh_grey.specs.Queue
-pub use Rattle.mh_grey.specs.Shading

@@ -1,2 +1,0 @@
--- Modules of mh_bits that crates above name, so that they list this one alone.
-pub use Rattle.mh_bits.proofs.BitLemmas

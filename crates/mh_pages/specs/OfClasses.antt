@@ -1,3 +1,0 @@
--- Modules of mh_classes that crates above name, so that they list this one alone.
-pub use Rattle.mh_classes.specs.Counts
-pub use Rattle.mh_classes.specs.Fits

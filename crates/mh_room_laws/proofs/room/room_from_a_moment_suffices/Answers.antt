@@ -1,5 +1,0 @@
-use Rattle.mh_room_laws.proofs.room.Moments.{moment-suffices}
-use Rattle.mh_room_laws.proofs.room.room_from_a_moment_suffices.Goals as goal
-
-pub returns : goal.returns
-returns c = moment-suffices

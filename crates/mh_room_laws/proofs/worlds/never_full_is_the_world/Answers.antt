@@ -1,5 +1,0 @@
-use Rattle.mh_room_laws.proofs.worlds.WorldReplies.{never-full-world}
-use Rattle.mh_room_laws.proofs.worlds.never_full_is_the_world.Goals as goal
-
-pub returns : goal.returns
-returns c = never-full-world

@@ -1,5 +1,0 @@
-use Rattle.mh_seen.proofs.RowLemmas.{HasLooked}
-use Rattle.mh_seen.proofs.rows.outcome_of.Given as goal
-
-abbrev pub invariant-loop-place : goal.invariant-loop-place
-invariant-loop-place g l = HasLooked l.fn.config l.fn.events l.fn.pages l.fn.window l.place l.latest l.first

@@ -1,5 +1,0 @@
-use Rattle.mh_seen.proofs.TriedLemmas.{AreFull}
-use Rattle.mh_seen.proofs.tried.try_triggers.Given as goal
-
-abbrev pub invariant-loop-place : goal.invariant-loop-place
-invariant-loop-place g l = AreFull l.fn.config l.fn.events l.fn.pages l.place l.latest

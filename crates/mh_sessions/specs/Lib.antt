@@ -1,7 +1,0 @@
-pub mod Faults
-pub mod Full
-pub mod Laws
-pub mod Texts
-pub mod OfJudging
-pub mod Watching
-pub mod WatchRules

@@ -1,9 +1,0 @@
-pub mod Cursor
-pub mod Rows
-pub mod Before
-pub mod Page
-pub mod LeftOut
-pub mod Bounds
-pub mod BeforeLaws
-pub mod OfCurve
-pub mod OfTelling

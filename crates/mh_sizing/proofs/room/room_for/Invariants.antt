@@ -1,5 +1,0 @@
-use Rattle.mh_sizing.proofs.RoomLemmas.{NoneBefore}
-use Rattle.mh_sizing.proofs.room.room_for.Given as goal
-
-abbrev pub invariant-loop-pages : goal.invariant-loop-pages
-invariant-loop-pages l = record { before : NoneBefore l.options l.pages }

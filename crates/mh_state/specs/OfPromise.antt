@@ -1,4 +1,0 @@
--- Modules of mh_promise that crates above name, so that they list this one alone.
-pub use Rattle.mh_promise.specs.Runs
-pub use Rattle.mh_promise.specs.Promise
-pub use Rattle.mh_promise.specs.Replays

@@ -1,5 +1,0 @@
-pub mod EventLemmas
-pub mod FigureLemmas
-pub mod LetterLemmas
-pub mod LineLemmas
-pub mod OfScript

@@ -1,6 +1,0 @@
-pub mod Fields
-pub mod Figures
-pub mod Lines
-pub mod Names
-pub mod Steps
-pub mod OfScript

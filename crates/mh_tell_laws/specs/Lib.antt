@@ -1,0 +1,4 @@
+pub mod Picture
+pub mod PictureLaws
+pub mod Cycles
+pub mod CycleLaws

@@ -1,0 +1,4 @@
+pub mod EventLemmas
+pub mod FigureLemmas
+pub mod LetterLemmas
+pub mod LineLemmas

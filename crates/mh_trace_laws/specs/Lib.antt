@@ -1,2 +1,0 @@
-pub mod Forgetting
-pub mod Laws
