@@ -4,8 +4,8 @@
 //! least number up to which the history isn't legal. So it is 1,000,001 if the machine's replies are right that far. A
 //! judge that is shown the entries one by one, and keeps none, finds the same of those that it was shown.
 //!
-//! It doesn't keep what is wrong with the bad entry, since it would need the right reply beside each. `fault_in` of
-//! `mh_judge` finds that by a second replay up to the bad entry, so judging costs nothing more for a legal history.
+//! What is wrong with the bad entry isn't said here. `mh_judge` says it of texts: when it follows an entry it has the
+//! right reply in hand, and keeps the difference at once.
 //! `check` and `audit` judge a history that lies in memory, for users of this crate: here tests alone call them. They
 //! open a machine before anything else, so no clause says when memory is refused to them.
 ghost use Rattle.std.specs.Prelude.{◌≡◌, [], ◌∷◌, ◌++◌, List, IsSome, IsOk, IfOk, IfErr, OnOk, OnErr};
