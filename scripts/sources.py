@@ -20,6 +20,8 @@ CLASS_WORDS = re.compile(r"\b(?:class_sizes|class_of|is_class_size|class_number)
 COMMENT = re.compile(r" *-- (.*?)(?<! ----)")
 DIVIDER = re.compile(r" *-- .* -{4,}")
 MODULE = re.compile(r"(?m)^pub mod (\w+)")
+# What a type says of itself for the clauses of a trait. How its value is read, and what it keeps, are its own.
+GIVEN = re.compile(r"(?m)^[ \t]*(?:pub )?ghost (?!view\b|invariant\b)\w+ = \{")
 
 
 def read(path):
@@ -213,3 +215,30 @@ class Source:
             if self.items and self.items[-1] and not said:
                 self.items[-1].text += line + "\n"
             above = [*above, said[1]] if said else []
+
+
+def words_meant(text, meant):
+    """The definitions that words of a text stand for."""
+    return {meant[it] for it in WORD.findall(text) if it in meant}
+
+
+def definitions(crate):
+    """The definitions of a crate's specs/, each as crate, path and name, with its file and the definitions that it uses."""
+    for path in sorted(crate.glob("specs/*.antt")):
+        text, here = read(path), f"{crate.name}.specs.{path.stem}"
+        items = [it for it in Source(path, DEFINITION).items if it]
+        meant = imports(text) | {it.name: f"{here}.{it.name}" for it in items}
+        for item in items:
+            yield f"{here}.{item.name}", path, words_meant(item.text, meant)
+
+
+def cited(crate):
+    """The definitions that the public contracts of a crate name, and what its types give to those of traits."""
+    found = set()
+    for _, text, public in public_calls(crate):
+        found |= words_meant("\n".join(said for _, said in public), imports(text))
+    for path in sorted(crate.glob("src/**/*.rt")):
+        text = read(path)
+        given = (text[it.end():closing(text, it.end() - 1)] for it in GIVEN.finditer(text))
+        found |= words_meant("\n".join(given), imports(text))
+    return found

@@ -5,7 +5,7 @@ use Rattle.std.specs.Int.{bit_not, w64, RustNames.bit_or}
 use lib.Bits.{bit_and}
 use Rattle.mh_model.specs.Classes.{tabulate}
 use mir.Val.{bits}
-use Rattle.mh_bits.specs.Bits.{has_bit, has_bit_among, bits_of}
+use Rattle.mh_bits.specs.{Bits.has_bit, Auxiliary.{has_bit_among, bits_of}}
 use Rattle.mh_model.proofs.TabulateLemmas.{tabulate-replicate}
 use Rattle.mh_bits.proofs.BitLemmas.{has_bit-zero, has_bit-set_same, has_bit-set_other, has_bit-clear_same, has_bit-clear_other}
 use Rattle.mh_bits.proofs.SetLemmas.{length-bits_of, get_or-bits_of, bits_of-set}

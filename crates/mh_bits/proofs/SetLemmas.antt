@@ -1,12 +1,11 @@
 -- Sets in words: one bit changed, and the least member by a summary.
-use Rattle.std.proofs.Common.{◌≡◌, ◌≢◌, ℕ, zero, suc, ◌+◌, ◌*◌, ◌/◌, ◌%◌, ◌^◌, ◌<◌, ◌≤◌, ◌==◌, nat_lt, Bool, true, false, not, MatchBool, List, length, get_or, set, replicate, ◌⊎◌, inl, inr, refl, ap, ◌∙◌, sym, subst, arith, get_or-set_same, get_or-set_other, eq-eqb}
-use Rattle.std.proofs.lemmas.Bool.{cases_eq, cases_lt, lt-ltb, le-ltb, eqb-true, not-false, true≢false}
-use Rattle.std.proofs.lemmas.List.{length-set, length-replicate}
+use Rattle.std.proofs.Common.{◌≡◌, ◌≢◌, ℕ, suc, ◌+◌, ◌*◌, ◌/◌, ◌%◌, ◌^◌, ◌<◌, ◌≤◌, ◌==◌, nat_lt, Bool, true, false, not, MatchBool, List, length, get_or, set, replicate, refl, ap, ◌∙◌, sym, subst, arith, get_or-set_same, get_or-set_other, eq-eqb}
+use Rattle.std.proofs.{lemmas.Bool.{cases_eq, cases_lt, true≢false}, lemmas.List.{length-set, length-replicate}}
 use Rattle.std.specs.Int.{bit_not, w64, trailing_zeros, RustNames.bit_or}
 use lib.Bits.{bit_and}
 use mir.Val.{bits}
-use Rattle.mh_bits.specs.Bits.{has_bit, has_bit_among, bits_of}
-use Rattle.mh_bits.specs.Sets.{empty_sets, has_member, HasLower, HasNoLower, IsEmptySet, IsLeastMember, IsSummed}
+use Rattle.mh_bits.specs.{Bits.has_bit, Auxiliary.{has_bit_among, bits_of, IsSummed}}
+use Rattle.mh_bits.specs.Sets.{empty_sets, has_member, HasLower, HasNoLower, IsEmptySet, IsLeastMember}
 use Rattle.mh_model.proofs.TabulateLemmas.{length-tabulate, get_or-tabulate, tabulate-set, tabulate-replicate}
 use Rattle.mh_bits.proofs.BitLemmas.{has_bit-zero, has_bit-set_same, has_bit-set_other, has_bit-clear_same, has_bit-clear_other, some_bit, lowest_bit, IsLowest}
 
@@ -49,11 +48,7 @@ pub bits_of-set : (words : List ℕ) (at bit word : ℕ) (value : Bool) → at <
     → ((i : ℕ) → i < 64 → i ≢ bit → has_bit word i ≡ has_bit (get_or words at 0) i)
     → bits_of (set words at word) ≡ set (bits_of words) (64 * at + bit) value
 unfolding bits_of
-bits_of-set words at bit word value within small same others =
-    rw (length-set words at word)
-    (tabulate-set (has_bit_among words) (has_bit_among (set words at word)) 0 (64 * length words) (64 * at + bit) value
-    (search (arith, cases_eq, get_or-set_same, get_or-set_other))
-    (grind (arith, get_or-set_same)))
+bits_of-set words at bit word value within small same others = grind (arith, length-set, tabulate-set, cases_eq, get_or-set_same, get_or-set_other)
 
 -- one word changed, and its bit of the summary with it
 pub summed-set : (words summaries : List ℕ) (at word summary : ℕ) → IsSummed words summaries → at < length words

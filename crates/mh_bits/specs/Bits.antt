@@ -1,18 +1,9 @@
 -- The bits of words.
-use Rattle.std.specs.{Prelude.{◌≡◌, ◌<◌, ◌≤◌, ℕ, ◌*◌, ◌/◌, ◌%◌, ◌==◌, Bool, List, length, get_or}, Int.bit_at}
-use Rattle.mh_model.specs.Classes.{tabulate}
+use Rattle.std.specs.{Prelude.{◌≡◌, ◌<◌, ◌≤◌, ℕ, ◌==◌, Bool, List, length, get_or}, Int.bit_at}
 
 -- whether a bit of a word is set
 abbrev pub has_bit : ℕ → ℕ → Bool
 has_bit word i = bit_at word i == 1
-
--- whether a bit of words is set, of which each has 64, the lowest first
-abbrev pub has_bit_among : List ℕ → ℕ → Bool
-has_bit_among words i = has_bit (get_or words (i / 64) 0) (i % 64)
-
--- the bits of words in order
-unfoldable pub bits_of : List ℕ → List Bool
-bits_of words = tabulate (has_bit_among words) 0 (64 * length words)
 
 -- the words from one on to before another are 0, and the others are as they were
 pub record IsZeroed (old new : List ℕ) (first end : ℕ) : Type 0 where

@@ -1,6 +1,5 @@
 -- Sets of page numbers, which are below 4,096, one after another in a list of bits.
-use Rattle.std.specs.Prelude.{◌≡◌, ◌<◌, ◌≤◌, ℕ, ◌+◌, ◌*◌, ◌==◌, Bool, true, false, not, List, length, get_or, replicate}
-use Rattle.mh_bits.specs.Bits.{has_bit_among}
+use Rattle.std.specs.Prelude.{◌≡◌, ◌<◌, ℕ, ◌+◌, ◌*◌, Bool, true, false, List, get_or, replicate}
 
 -- whether a set has a number
 abbrev pub has_member : List Bool → ℕ → ℕ → Bool
@@ -27,9 +26,3 @@ HasLower sets set below = (member : ℕ) × (member < 4096) × (member < below) 
 -- a set has no number below this one
 abbrev pub HasNoLower : List Bool → ℕ → ℕ → Type 0
 HasNoLower sets set below = (member : ℕ) → member < 4096 → member < below → has_member sets set member ≡ false
-
--- each set has 64 words and a summary, in which a bit is set for each word that isn't 0
-pub record IsSummed (words summaries : List ℕ) : Type 0 where
-  pub counts : length words ≡ 64 * length summaries
-  pub few : length summaries ≤ 4096
-  pub sums : (k : ℕ) → k < length words → has_bit_among summaries k ≡ not (get_or words k 0 == 0)

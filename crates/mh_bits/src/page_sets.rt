@@ -22,7 +22,7 @@ pub struct PageSets {
 
 impl Model for PageSets {
     ghost use Rattle.std.specs.Prelude.{List, Bool};
-    ghost use Rattle.mh_bits.specs.{Bits.bits_of, Sets.IsSummed};
+    ghost use Rattle.mh_bits.specs.Auxiliary.{bits_of, IsSummed};
 
     ghost Value = { List Bool };
 

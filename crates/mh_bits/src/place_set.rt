@@ -17,7 +17,7 @@ pub struct PlaceSet {
 
 impl Model for PlaceSet {
     ghost use Rattle.std.specs.Prelude.{List, Bool};
-    ghost use Rattle.mh_bits.specs.Bits.{bits_of};
+    ghost use Rattle.mh_bits.specs.Auxiliary.{bits_of};
 
     ghost Value = { List Bool };
 

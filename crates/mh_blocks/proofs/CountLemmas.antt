@@ -93,8 +93,7 @@ in_table-with_block test table place old content is =
     let slot = slot_number place in
     let exchanged : in_table test (with_block table place content) ≡ in_table test (set table (page_number place) (Some (page_with slot content at.page)))
     = ap (λ page. in_table test (set table (page_number place) (option_map (page_with slot content) page))) at.page_is in
-    let pages = pages-set test table (page_number place) (Some (page_with slot content at.page)) at.page_inside in
-    omega (arith, exchanged, pages, ap (in_page test) at.page_is, in_page-with test at.page slot content at.slot_inside, ap (one test) at.block_is)
+    grind (arith, pages-set, in_page-with)
 
 none-passing : (test : Block → Bool) (count : ℕ) → passing test (blocks_in (replicate count None)) ≡ 0
 none-passing test zero = refl
@@ -108,9 +107,7 @@ pub in_table-with_taken : (test : Block → Bool) (table : Table Block) (size pl
 in_table-with_taken test table size place block free =
     let slot = slot_number place in
     let page = page_for size (page_at table (page_number place)) in
-    let empty : block_in slot page ≡ None = block_in-page_for (page_at table (page_number place)) size slot ∙ free.empty in
-    let pages = pages-set test table (page_number place) (Some (page_with slot (Some block) page)) free.inside in
-    omega (arith, pages, in_page-with test page slot (Some block) free.within, in_page-page_for test size (page_at table (page_number place)), ap (one test) empty)
+    grind (arith, page, block_in-page_for, pages-set, in_page-with, in_page-page_for)
 
 pub in_table-with_flag : (test : Block → Bool) (table : Table Block) (number : ℕ) (is_flagged : Bool) → in_table test (with_flag table number is_flagged) ≡ in_table test table
 in_table-with_flag test [] number is_flagged = refl

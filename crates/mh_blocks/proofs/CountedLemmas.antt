@@ -5,7 +5,7 @@ use mir.Val.{bool_byte}
 use Rattle.mh_model.specs.Pages.{Table, page_number, block_at, count_at, with_block, with_taken, with_released, with_flag, HaveTheirSlots, IsFreeFor}
 use Rattle.mh_model.specs.{Table.{Block, is_forwarder, forward_at, with_block_change}, Collector.{Move, moved_table}}
 use Rattle.mh_model.specs.Machine.{blocks_of}
-use Rattle.mh_blocks.specs.Counted.{HasCounts}
+use Rattle.mh_blocks.specs.Auxiliary.{HasCounts}
 use Rattle.mh_table_laws.proofs.placing.Places.{block_at-with_taken_there}
 use Rattle.mh_blocks.proofs.CountLemmas.{passing, one, in_table, in_table-with_block, in_table-with_taken, in_table-with_flag, in_table-with_released, in_table-freed, in_table-empty, few-in_table}
 
@@ -43,11 +43,7 @@ pub taken_counts : (table : Table Block) (size place : ℕ) (block : Block) (blo
 taken_counts table size place block blocks forwarders free original counts =
     let none : one is_forwarder (Some block) ≡ 0 = ap (λ forward. if is_some forward then 1 else 0) original in
     let here = in_table-with_taken every table size place block free in
-    let old = in_table-with_taken is_forwarder table size place block free in
-    record {
-      blocks_are = omega (arith, counts.blocks_are, here, all (blocks_of table), all (blocks_of (with_taken table size place block)));
-      forwarders_are = omega (arith, counts.forwarders_are, old, none);
-    }
+    grind (arith, in_table-with_taken, all)
 
 -- 1 if the block at a place is a forwarder
 abbrev pub forwards : Table Block → ℕ → ℕ
@@ -95,10 +91,7 @@ changed_counts table place change blocks forwarders there same counts = go (bloc
         let forward : one is_forwarder (Some (change block)) ≡ one is_forwarder (Some block) = ap (λ f. if is_some f then 1 else 0) (same block) in
         let here = in_table-with_block every table place block (Some (change block)) at in
         let old = in_table-with_block is_forwarder table place block (Some (change block)) at in
-        record {
-          blocks_are = omega (arith, counts.blocks_are, here, all (blocks_of table), all (blocks_of new));
-          forwarders_are = omega (arith, counts.forwarders_are, old, forward);
-        }
+        grind (arith, counts, all)
 
 -- a block moved, which was no forwarder
 pub moved_counts : (table : Table Block) (place : ℕ) (move : Move) (blocks forwarders : ℕ) → block_at table place ≡ Some move.block → move.block.forward ≡ None → IsFreeFor table move.class_size move.target → HasCounts table blocks forwarders → HasCounts (moved_table table place move) (blocks + 1) (forwarders + 1)
@@ -111,10 +104,7 @@ moved_counts table place move blocks forwarders at original free counts =
     let new = with_block put place (Some marked) in
     let here = in_table-with_block every put place move.block (Some marked) still in
     let old = in_table-with_block is_forwarder put place move.block (Some marked) still in
-    record {
-      blocks_are = omega (arith, copy.blocks_are, here, all (blocks_of put), all (blocks_of new));
-      forwarders_are = omega (arith, copy.forwarders_are, old, none);
-    }
+    grind (arith, all)
 
 -- How many there can be ----------------------------------------------------------------------------
 

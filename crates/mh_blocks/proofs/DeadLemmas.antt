@@ -1,27 +1,13 @@
 -- What a sweep frees of a page, slot by slot and by words.
-use Rattle.std.proofs.Common.{◌≡◌, ℕ, zero, suc, ◌+◌, ◌-◌, ◌*◌, ◌%◌, ◌^◌, ◌<◌, ◌≤◌, ◌==◌, min, max, get_or, Bool, true, false, not, ◌||◌, ◌&&◌, Option, Some, None, option_map, option_and_then, unwrap_or, is_some, IsSome, ◌⊎◌, inl, inr, refl, sym, ap, ◌∙◌, arith}
-use Rattle.std.proofs.lemmas.Nat.Bits.{bit_at-lt, bit_at_and, bit_at_or, bit_at_not}
-use Rattle.std.proofs.lemmas.Bool.{cases_eq, false≢true}
+use Rattle.std.proofs.Common.{◌≡◌, ℕ, zero, suc, ◌+◌, ◌-◌, ◌*◌, ◌%◌, ◌^◌, ◌<◌, ◌≤◌, ◌==◌, min, max, get_or, Bool, true, false, not, ◌||◌, ◌&&◌, Option, Some, None, option_map, unwrap_or, is_some, ◌⊎◌, inl, inr, refl, ap, ◌∙◌, arith}
+use Rattle.std.proofs.{lemmas.Nat.Bits.{bit_at-lt, bit_at_and, bit_at_or, bit_at_not}, lemmas.Bool.cases_eq}
 use Rattle.std.specs.Int.{bit_at, bit_not, w64, RustNames.bit_or}
 use lib.Bits.{bit_and}
 use mir.Val.{bits}
 use Rattle.mh_model.specs.{Pages.{Table, block_at}, Table.{Block, is_forwarder}, Collector.is_marked}
 use Rattle.mh_bits.specs.Bits.{has_bit}
 use Rattle.mh_bits.proofs.BitLemmas.{has_bit-zero, has_bit-set_same, has_bit-set_other}
-use Rattle.mh_blocks.specs.Marks.{Index, IsIndexOf, is_dead}
-
--- a block, as what is asked of it says
-pub free_is_not_dead : (cycle : ℕ) (content : Option Block) → is_some content ≡ false → false ≡ is_dead cycle content
-free_is_not_dead cycle None none = refl
-free_is_not_dead cycle (Some block) none = absurd (false≢true (sym none))
-
-pub forwarder_is_dead : (cycle : ℕ) (content : Option Block) → is_some (option_and_then (λ (b : Block). b.forward) content) ≡ true → true ≡ is_dead cycle content
-forwarder_is_dead cycle None none = absurd (false≢true none)
-forwarder_is_dead cycle (Some block) leads = rw leads refl
-
-pub original_is_dead : (cycle : ℕ) (content : Option Block) → IsSome content → is_some (option_and_then (λ (b : Block). b.forward) content) ≡ false → not (unwrap_or (option_map (λ (b : Block). b.stamp) content) 0 == cycle) ≡ is_dead cycle content
-original_is_dead cycle None none stays = absurd (false≢true none)
-original_is_dead cycle (Some block) some stays = rw stays refl
+use Rattle.mh_blocks.specs.{Auxiliary.{Index, IsIndexOf}, Marks.is_dead}
 
 -- the slots below one are found
 pub record AreFoundBelow (table : Table Block) (cycle page dead slot : ℕ) : Type 0 where

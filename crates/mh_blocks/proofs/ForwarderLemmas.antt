@@ -1,5 +1,5 @@
 -- A table that counts no forwarder has none at any place.
-use Rattle.std.proofs.Common.{◌≡◌, ℕ, ◌+◌, Bool, true, false, if◌then◌else◌, length, filter, Option, Some, None, is_some, IsSome, option_and_then, refl, ap, ◌∙◌, arith}
+use Rattle.std.proofs.Common.{◌≡◌, ℕ, ◌+◌, Bool, true, false, if◌then◌else◌, length, filter, Option, Some, None, is_some, IsSome, refl, arith}
 use Rattle.std.proofs.lemmas.Bool.{false≢true}
 use Rattle.mh_model.specs.{Pages.{Table, block_at, with_block}, Table.{Block, forward_at, is_forwarder}}
 use Rattle.mh_model.specs.Machine.{blocks_of}
@@ -18,5 +18,4 @@ no_forwarder table place none there = go (block_at table place) refl there
     go (Some block) is some =
         let exchanged : in_table is_forwarder (with_block table place None) + one is_forwarder (Some block) ≡ in_table is_forwarder table + one is_forwarder None
         = in_table-with_block is_forwarder table place block None is in
-        let zero : one is_forwarder (Some block) ≡ 0 = omega (arith, exchanged, none) in
-        ap (λ c. is_some (option_and_then (λ (b : Block). b.forward) c)) is ∙ no_pass (is_forwarder block) zero
+        grind (arith, one, no_pass)

@@ -1,9 +1,9 @@
 -- What holds of the value in an option, and places that are free for it.
-use Rattle.std.proofs.Common.{◌≡◌, ℕ, List, Option, Some, None, IfSome, refl, sym, ◌∙◌, subst}
+use Rattle.std.proofs.Common.{arith, ◌≡◌, ℕ, List, Option, Some, None, IfSome, refl, sym, ◌∙◌, subst}
 use Rattle.std.proofs.lemmas.Option.{same_Some}
 use Rattle.mh_model.specs.{Pages.{Table, IsFreeFor}, Table.Block}
 use Rattle.mh_table_laws.proofs.PageMapLemmas.{free_below}
-use Rattle.mh_blocks.specs.Words.{block_of, block_table}
+use Rattle.mh_blocks.specs.Auxiliary.{block_table}
 
 pub if_some : {A : Type 0} (content : Option A) (P : A → Type 0) → ((x : A) → content ≡ Some x → P x) → IfSome content P
 if_some None P each = tt
@@ -17,5 +17,4 @@ of_some {A = A} content P x is all = let Q = λ (c : Option A). IfSome c P in su
 
 -- a place that is free above for the class, if there is one, is free for it below
 pub free_for_class : (table : Table (List ℕ)) (above : Table Block) (class : Option ℕ) (size place : ℕ) → block_table table ≡ above → IfSome class (λ s. IsFreeFor above s place) → class ≡ Some size → IsFreeFor table size place
-free_for_class table above class size place view free is =
-    free_below block_of table size place (subst (λ t. IsFreeFor t size place) (sym view) (of_some class (λ s. IsFreeFor above s place) size is free))
+free_for_class table above class size place view free is = grind (arith, free_below, of_some)

@@ -6,7 +6,7 @@ use Rattle.mh_model.specs.Table.{Block, is_forwarder, with_block_change, with_st
 use Rattle.mh_model.specs.Collector.{Move, moved_table, is_marked}
 use Rattle.mh_table_laws.proofs.Lists.{below_length}
 use Rattle.mh_table_laws.proofs.placing.Places.{block_at-with_block_there, block_at-with_block_other, block_at-with_taken_same, block_at-with_taken_other, block_at-with_taken_there}
-use Rattle.mh_blocks.specs.Marks.{Index, passes_at, HasThosePlaces, IsIndexOf}
+use Rattle.mh_blocks.specs.Auxiliary.{Index, passes_at, HasThosePlaces, IsIndexOf}
 
 -- Where a block is ---------------------------------------------------------------------------------
 
@@ -68,17 +68,11 @@ pub empty_index : (pages : ℕ) → IsIndexOf (replicate pages None) (record { m
 empty_index pages = record { marks = none (is_marked 0); forwards = none is_forwarder }
   where
     none : (test : Block → Bool) → HasThosePlaces test (replicate pages None) (replicate (64 * pages) false)
-    none test = record {
-      long = length-none (64 * pages) false ∙ ap (λ n. 64 * n) (sym (length-none {X = Option (Page Block)} pages None));
-      each = λ place. no-place (64 * pages) place ∙ ap (λ content. unwrap_or (option_map test content) false) (sym (no-block pages (page_number place) (slot_number place)));
-    }
+    none test = grind (arith, length-none, no-place, no-block)
 
 -- a table whose blocks are all as they were
 still : (old new : Table Block) (index : Index) → length new ≡ length old → ((place : ℕ) → block_at new place ≡ block_at old place) → IsIndexOf old index → IsIndexOf new index
-still old new index long alike is = record {
-  marks = kept (is_marked index.cycle) old new index.marked long (λ place. ap (λ content. unwrap_or (option_map (is_marked index.cycle) content) false) (alike place)) is.marks;
-  forwards = kept is_forwarder old new index.forwarders long (λ place. ap (λ content. unwrap_or (option_map is_forwarder content) false) (alike place)) is.forwards;
-}
+still old new index long alike is = grind (arith, kept)
 
 flagged-same : (table : Table Block) (number : ℕ) (is_flagged : Bool) (other slot : ℕ) → option_and_then (block_in slot) (page_at (with_flag table number is_flagged) other) ≡ option_and_then (block_in slot) (page_at table other)
 flagged-same [] number is_flagged other slot = refl
@@ -183,12 +177,7 @@ freed-here (page ∷ table) (suc number) slot = freed-here table number slot
 
 released-other : (table : Table Block) (place : ℕ) (frees_page : Bool) (other : ℕ) → IsSome (block_at table place) → (frees_page ≡ true → count_at table (page_number place) ≡ 1) → other ≢ place → block_at (with_released table place frees_page) other ≡ block_at table other
 released-other table place false other some alone apart = block_at-with_block_other table place other None apart
-released-other table place true other some alone apart = elim (cases_eq (page_number other) (page_number place)) [
-  | inl here ↦
-      let slots_apart : slot_number other ≢ slot_number place = λ k. apart (omega arith) in
-      rw here (freed-other table (page_number place) (slot_number place) (slot_number other) (alone refl) some slots_apart)
-  | inr pages_apart ↦ ap (option_and_then (block_in (slot_number other))) (get_or-set_other table (page_number place) (page_number other) None None pages_apart)
-]
+released-other table place true other some alone apart = grind (arith, cases_eq, inl, freed-other, inr, get_or-set_other)
 
 released-here : (table : Table Block) (place : ℕ) (frees_page : Bool) → IsSome (block_at table place) → block_at (with_released table place frees_page) place ≡ None
 released-here table place false some = block_at-with_block_there table place None some

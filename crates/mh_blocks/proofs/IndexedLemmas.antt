@@ -5,8 +5,7 @@ use Rattle.mh_model.specs.Classes.{Part, class_of, part_words}
 use Rattle.mh_model.specs.Pages.{Table, page_number, block_at, class_at, count_at, with_taken, with_released, with_flag, IsFreeFor}
 use Rattle.mh_model.specs.{Table.{Block, forward_at, new_block}, Collector.{Move, moved_table}}
 use Rattle.mh_pages.specs.{declared.header.Header.Header, Words.{words_at, with_word, with_header}}
-use Rattle.mh_blocks.specs.{Words.{place_in, reference_words, block_of, block_table}, Packed.ArePacked}
-use Rattle.mh_blocks.specs.Marks.{Index, IsIndexOf}
+use Rattle.mh_blocks.specs.Auxiliary.{place_in, reference_words, block_of, block_table, ArePacked, Index, IsIndexOf}
 use Rattle.mh_table_laws.proofs.TableMapLemmas.{freed-table_map, with_flag-table_map, with_released-table_map}
 use Rattle.mh_table_laws.proofs.PageMapLemmas.{class_at-table_map, free_above}
 use Rattle.mh_blocks.proofs.ReadLemmas.{HasReference, HasNumber}

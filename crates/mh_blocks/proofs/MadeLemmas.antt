@@ -1,5 +1,5 @@
 -- Blocks made.
-use Rattle.std.proofs.Common.{◌≡◌, ℕ, zero, suc, ◌+◌, ◌-◌, ◌≤◌, ◌==◌, nat_le, Bool, true, false, if◌then◌else◌, find, List, [], ◌∷◌, length, set, map, take, drop, replicate, Option, Some, None, option_map, IfSome, refl, sym, ap, ◌∙◌, subst, arith}
+use Rattle.std.proofs.Common.{◌≡◌, ℕ, zero, suc, ◌+◌, ◌-◌, ◌≤◌, ◌==◌, nat_le, Bool, true, false, if◌then◌else◌, find, List, [], ◌∷◌, length, set, map, replicate, Option, Some, None, option_map, IfSome, refl, sym, ap, ◌∙◌, subst, arith}
 use Rattle.std.proofs.{lemmas.Bool.{and_parts, leb-true}, lemmas.Option.{none-some, same_Some}}
 use Rattle.std.proofs.lemmas.List.{length-replicate, take-replicate, drop-replicate}
 use Rattle.std.specs.List.{list_all}
@@ -7,8 +7,7 @@ use Rattle.mh_model.specs.{declared.shape.Shape.Shape, Classes.{Part, class_size
 use Rattle.mh_model.specs.{Pages.{Table, with_block, with_taken, IsFreeFor}, Table.{Block, new_block}}
 use Rattle.mh_classes.specs.{Counts.{reference_count, number_count}, Fits.FitsItsHeader}
 use Rattle.mh_pages.specs.{declared.header.Header.Header, Words.{with_word, with_header}}
-use Rattle.mh_blocks.specs.{Words.{place_in, header_in, block_of, block_table}, Packed.{IsPacked, ArePacked}}
-use Rattle.mh_blocks.specs.Headers.{IsNewHeader}
+use Rattle.mh_blocks.specs.Auxiliary.{place_in, header_in, block_of, block_table, IsPacked, ArePacked, IsNewHeader}
 use Rattle.mh_table_laws.proofs.TableMapLemmas.{with_taken-table_map}
 use Rattle.mh_table_laws.proofs.placing.Places.{block_at-with_taken_same, with_block-with_taken}
 use Rattle.mh_blocks.proofs.{PackedLemmas.taken_packed, FreeLemmas.at_some}
@@ -50,11 +49,7 @@ with_word-taken table size place index word words free =
 
 -- a header written to a block that was just put
 pub with_header-taken : (table : Table (List ℕ)) (size place : ℕ) (words : List ℕ) (header : Header) → IsFreeFor table size place → with_header (with_taken table size place words) place header ≡ with_taken table size place (set_header words header)
-with_header-taken table size place words header free =
-    ap (λ t. with_word (with_word (with_word t place 1 header.counts) place 2 header.stamp) place 3 header.forward) (with_word-taken table size place 0 header.birth words free)
-    ∙ ap (λ t. with_word (with_word t place 2 header.stamp) place 3 header.forward) (with_word-taken table size place 1 header.counts (set words 0 header.birth) free)
-    ∙ ap (λ t. with_word t place 3 header.forward) (with_word-taken table size place 2 header.stamp (set (set words 0 header.birth) 1 header.counts) free)
-    ∙ with_word-taken table size place 3 header.forward (set (set (set words 0 header.birth) 1 header.counts) 2 header.stamp) free
+with_header-taken table size place words header free = grind (arith, with_word-taken)
 
 -- the words of a new block of a class
 abbrev pub new_words : ℕ → Header → List ℕ
@@ -83,20 +78,7 @@ number_words_are birth stamp index part header fits new = ap number_count new.co
 
 pub new_block_is : (size birth stamp index : ℕ) (part : Part) (header : Header) → part_words part ≤ size → FitsItsHeader part → IsNewHeader birth stamp index part.header header → block_of (new_words size header) ≡ new_block birth stamp index part
 unfolding block_of
-new_block_is size birth stamp index part header room fits new =
-    let rs : reference_count (header_in header.counts) ≡ part.references = reference_words_are birth stamp index part header fits new in
-    let ns : number_count (header_in header.counts) ≡ part.numbers = number_words_are birth stamp index part header fits new in
-    let fields : List ℕ = replicate (size - 4) 0 in
-    let references : map place_in (take (reference_count (header_in header.counts)) fields) ≡ replicate part.references None
-    = ap (λ count. map place_in (take count fields)) rs ∙ ap (map place_in) (take-replicate part.references (size - 4) 0 (omega arith)) ∙ nothing_in part.references in
-    let numbers : take (number_count (header_in header.counts)) (drop (reference_count (header_in header.counts)) fields) ≡ replicate part.numbers 0
-    = ap (λ count. take (number_count (header_in header.counts)) (drop count fields)) rs
-    ∙ ap (λ count. take count (drop part.references fields)) ns
-    ∙ ap (take part.numbers) (drop-replicate part.references (size - 4) 0)
-    ∙ take-replicate part.numbers (size - 4 - part.references) 0 (omega arith) in
-    let birth_is : header.birth - 1 ≡ birth = omega (arith, new.birth_word) in
-    ap block_of (new_words-is size header (omega arith))
-    ∙ same_block _ _ _ _ _ _ _ _ _ _ _ _ _ _ birth_is new.part_word new.stamp_word new.counts_word new.forward_word references numbers
+new_block_is size birth stamp index part header room fits new = grind (arith, reference_words_are, number_words_are, take-replicate, nothing_in, drop-replicate, new_words-is, same_block)
 
 pub new_words_packed : (size birth stamp index : ℕ) (part : Part) (header : Header) → part_words part ≤ size → size ≤ 64 → FitsItsHeader part → IsNewHeader birth stamp index part.header header → IsPacked (new_words size header)
 new_words_packed size birth stamp index part header room most fits new =

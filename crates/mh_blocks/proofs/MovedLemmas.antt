@@ -4,7 +4,7 @@ use Rattle.std.proofs.lemmas.Option.{same_Some}
 use Rattle.mh_model.specs.Pages.{Table, page_number, block_at, class_at, with_block, with_taken, IsFreeFor}
 use Rattle.mh_model.specs.{Table.Block, Collector.moved_table}
 use Rattle.mh_pages.specs.Words.{words_at, with_word}
-use Rattle.mh_blocks.specs.{Words.{place_in, block_of, block_table}, Packed.ArePacked}
+use Rattle.mh_blocks.specs.Auxiliary.{place_in, block_of, block_table, ArePacked}
 use Rattle.mh_table_laws.proofs.TableMapLemmas.{block_at-table_map, with_taken-table_map}
 use Rattle.mh_table_laws.proofs.placing.Places.{block_at-with_taken_there}
 use Rattle.mh_table_laws.proofs.PageMapLemmas.{class_at-table_map, free_above}

@@ -1,11 +1,11 @@
 -- Each change of a table keeps its blocks packed.
-use Rattle.std.proofs.Common.{◌≡◌, ◌≢◌, ℕ, zero, suc, ◌<◌, ◌≤◌, Bool, true, false, List, ◌∷◌, length, get_or, set, replicate, Option, Some, None, option_map, option_and_then, refl, sym, ap, ◌∙◌, subst, inl, inr, arith}
+use Rattle.std.proofs.Common.{◌≡◌, ◌≢◌, ℕ, zero, suc, ◌<◌, ◌≤◌, Bool, true, false, List, ◌∷◌, length, get_or, set, replicate, Option, Some, None, option_map, option_and_then, refl, ap, subst, inl, inr, arith}
 use Rattle.std.proofs.lemmas.Option.{none-some, same_Some}
 use Rattle.std.proofs.lemmas.List.{get_or-set_other, length-set, length-replicate}
 use Rattle.mh_model.specs.Pages.{Page, Table, page_number, slot_number, page_at, block_in, block_at, page_with, page_for, with_taken, with_released, flagged_as, with_flag}
 use Rattle.mh_pages.specs.Words.{with_word}
 use Rattle.mh_table_laws.specs.TableMaps.{table_map}
-use Rattle.mh_blocks.specs.{Words.block_table, Packed.{IsPacked, ArePacked}}
+use Rattle.mh_blocks.specs.Auxiliary.{block_table, IsPacked, ArePacked}
 use Rattle.mh_blocks.proofs.ChangeLemmas.{after_change, after_taking, after_freeing, after_flagging, after_release}
 
 -- All pages free -----------------------------------------------------------------------------------
@@ -19,10 +19,7 @@ nothing_at count place = ap (option_and_then (block_in (slot_number place))) (fr
     free (suc pages) (suc number) = free pages number
 
 pub empty_packed : (count : ℕ) → count ≤ 4096 → ArePacked (replicate count None)
-empty_packed count few = record {
-  few = omega (arith, length-replicate {A = Option (Page (List ℕ))} count None);
-  blocks = λ place words is. absurd (none-some words (sym (nothing_at count place) ∙ is));
-}
+empty_packed count few = grind (arith, length-replicate, none-some, nothing_at)
 
 pub empty_blocks : (count : ℕ) → block_table (replicate count None) ≡ replicate count None
 unfolding table_map
@@ -36,13 +33,7 @@ above a b more e = omega arith
 
 -- the first two words stay as they are
 pub set_packed : (words : List ℕ) (index word : ℕ) → 1 < index → IsPacked words → IsPacked (set words index word)
-set_packed words index word later packed =
-    let counts : get_or (set words index word) 1 0 ≡ get_or words 1 0 = get_or-set_other words index 1 word 0 (above index 1 later) in
-    record {
-      born = rw (get_or-set_other words index 0 word 0 (above index 0 (omega arith))) packed.born;
-      room = rw (counts, length-set words index word) packed.room;
-      most = rw (length-set words index word) packed.most;
-    }
+set_packed words index word later packed = grind (arith, get_or-set_other, above, length-set)
 
 pub word_packed : (table : Table (List ℕ)) (place index word : ℕ) → 1 < index → ArePacked table → ArePacked (with_word table place index word)
 word_packed table place index word later packed = record {

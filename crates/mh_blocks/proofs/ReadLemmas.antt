@@ -4,8 +4,7 @@ use Rattle.std.proofs.lemmas.Bool.{false≢true}
 use Rattle.mh_model.specs.Pages.{Page, Table, page_number, slot_number, page_at, block_in, block_at, class_at, Leads}
 use Rattle.mh_model.specs.Table.{Block, references_at, reference_at, numbers_at, number_at, stamp_at, forward_at}
 use Rattle.mh_pages.specs.Words.{words_at}
-use Rattle.mh_blocks.specs.Words.{place_in, part_in, header_in, reference_words, number_words, block_of, block_table}
-use Rattle.mh_blocks.specs.Packed.{IsPacked, ArePacked}
+use Rattle.mh_blocks.specs.Auxiliary.{place_in, part_in, header_in, reference_words, number_words, block_of, block_table, IsPacked, ArePacked}
 use Rattle.mh_table_laws.proofs.TableMapLemmas.{length-table_map, block_at-table_map}
 use Rattle.mh_blocks.proofs.BlockLemmas.{length-references, length-numbers, reference-is, number-is}
 

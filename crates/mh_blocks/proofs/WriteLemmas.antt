@@ -3,7 +3,7 @@ use Rattle.std.proofs.Common.{◌≡◌, ℕ, ◌+◌, ◌<◌, List, [], set, O
 use Rattle.mh_model.specs.Pages.{Table, block_at}
 use Rattle.mh_model.specs.Table.{with_block_change, with_reference_at, with_number_at, with_stamp_at}
 use Rattle.mh_pages.specs.Words.{words_at, with_word}
-use Rattle.mh_blocks.specs.{Words.{place_in, reference_words, block_of, block_table}, Packed.ArePacked}
+use Rattle.mh_blocks.specs.Auxiliary.{place_in, reference_words, block_of, block_table, ArePacked}
 use Rattle.mh_table_laws.proofs.TableMapLemmas.{changed}
 use Rattle.mh_blocks.proofs.BlockLemmas.{stamp_written, forward_written, reference_written, number_written}
 use Rattle.mh_blocks.proofs.ReadLemmas.{HasReference, HasNumber}
@@ -30,6 +30,4 @@ with_word-number table place index number this =
     (λ words is. ap (λ i. block_of (set words i number)) (at words is) ∙ number_written words index number)
   where
     at : (words : List ℕ) → block_at table place ≡ Some words → 4 + reference_words (words_at table place) + index ≡ 4 + (reference_words words + index)
-    at words is =
-        let same : reference_words (words_at table place) ≡ reference_words words = ap (λ content. reference_words (unwrap_or content [])) is in
-        omega (arith, same)
+    at words is = grind arith

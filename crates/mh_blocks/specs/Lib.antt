@@ -1,5 +1,2 @@
-pub mod Words
-pub mod Packed
-pub mod Counted
 pub mod Marks
-pub mod Headers
+pub mod Auxiliary

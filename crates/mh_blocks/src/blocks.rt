@@ -47,7 +47,7 @@ pub struct Blocks {
 
 impl Model for Blocks {
     ghost use Rattle.mh_model.specs.{Pages.Table, Table.Block};
-    ghost use Rattle.mh_blocks.specs.{Words.block_table, Counted.AreCounted, Marks.IsIndexOf};
+    ghost use Rattle.mh_blocks.specs.Auxiliary.{block_table, AreCounted, IsIndexOf};
 
     ghost Value = { Table Block };
 

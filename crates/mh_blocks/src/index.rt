@@ -19,7 +19,7 @@ pub struct Index {
 }
 
 impl Model for Index {
-    ghost use Rattle.mh_blocks.specs.Marks as book;
+    ghost use Rattle.mh_blocks.specs.Auxiliary as book;
 
     ghost Value = { book.Index };
 

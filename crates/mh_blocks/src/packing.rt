@@ -3,7 +3,7 @@
 ghost use Rattle.std.specs.Prelude.{◌≡◌, ◌<◌, ◌≤◌, ◌^◌, IfSome};
 ghost use Rattle.mh_classes.specs.Counts.{reference_count, number_count};
 ghost use Rattle.mh_model.specs.Classes.{run_count, child_count};
-ghost use Rattle.mh_blocks.specs.{Words.{place_in, part_in, header_in}, Headers.IsNewHeader};
+ghost use Rattle.mh_blocks.specs.Auxiliary.{place_in, part_in, header_in, IsNewHeader};
 
 use mh_model::birth::Birth;
 use mh_model::limits;

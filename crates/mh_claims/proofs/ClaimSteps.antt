@@ -5,8 +5,9 @@ use mathlib.Core.Option.{none, some, some-injective, some-ne-none}
 use lib.ListN.{get_elem?}
 use Rattle.atomic_table.specs.Table.{State, step, keeps, opening, Allows, Splits, Joins}
 use Rattle.atomic_table.proofs.Lists.{at_set, at_snoc}
-use Rattle.mh_model.specs.History.{ClaimState, has_ended, with_draw}
-use Rattle.mh_seat_laws.specs.{Weights.{weigh, weigh_lists, total}, ClaimWord.{Lists, AllRunOut, IsClaimed, claim_of}}
+use Rattle.mh_model.specs.History.{ClaimState, has_ended}
+use Rattle.mh_seat_laws.specs.{Weights.{weigh, weigh_lists, total}, ClaimWord.{Lists, AllRunOut, IsClaimed}}
+use Rattle.mh_seat_laws.specs.Auxiliary.{claim_of}
 use Rattle.mh_seat_laws.proofs.TotalLemmas.{total-set, total-append_one}
 use Rattle.mh_seat_laws.proofs.claim_word.ShownClaims.{both_run, claim_of-drawn}
 use Rattle.mh_seat_laws.proofs.claim_word.DrawRule.{below-has_ended, only_last_past-append, with_draw-kept}
@@ -47,13 +48,7 @@ module _ (about : ℕ × ℕ) (table : State (Unit {0}) Lists) (rule : IsClaimed
       let claim : ClaimState = claim_of table in
       let place = alone-stands table.views id list there in
       let kept = with_draw-kept about.0 claim place.seat place.inside (ap (has_ended about.0) place.here ∙ going) (claim_of-drawn about table rule) in
-      omega (
-        arith,
-        word-near_bound about.0 (with_draw claim place.seat) kept,
-        length-set claim.drawn place.seat (get_or claim.drawn place.seat [] ++ claim.word ∷ []),
-        length-all_of table.views,
-        rule.seats,
-      )
+      grind (arith, word-near_bound, length-set, length-all_of)
 
   -- and each number of the seat is below the word
   list-below : (number : ℕ) → 1 ≤ counts number list → number < get_or table.words 0 0

@@ -1,10 +1,10 @@
 -- If every seat has ended and one seat stands for all, each number below the bound was drawn once.
-use Rattle.std.proofs.Common.{◌≡◌, ℕ, zero, suc, ◌<◌, true, All, List, [], ◌∷◌, ◌++◌, length, get_or, map, sym, refl, ap, ◌∙◌, subst, arith, append-nil}
-use mathlib.Core.Option.{some, some-injective, some-ne-none}
+use Rattle.std.proofs.Common.{◌≡◌, ℕ, zero, suc, ◌<◌, true, All, List, [], ◌∷◌, ◌++◌, length, get_or, map, sym, refl, ap, subst, arith, append-nil}
+use mathlib.Core.Option.{some, some-ne-none}
 use lib.ListN.{get_elem?}
 use Rattle.atomic_table.specs.Table.{State, Seen}
 use Rattle.mh_model.specs.History.{has_ended, times_drawn}
-use Rattle.mh_seat_laws.specs.{Weights.total, ClaimWord.{Lists, IsClaimed, claim_of}}
+use Rattle.mh_seat_laws.specs.{Weights.total, ClaimWord.{Lists, IsClaimed}, Auxiliary.claim_of}
 use Rattle.mh_seat_laws.proofs.{TotalLemmas.total-set, claim_word.ShownClaims.claim_of-drawn}
 use Rattle.mh_seat_laws.proofs.claim_word.DrawnNumbers.{ended-drawn_once}
 use Rattle.mh_claims.specs.Seats.{ClaimsView, DrawSeatView, DrawsFrom, seat_ended}
@@ -36,9 +36,7 @@ none-left ((list ∷ lists) ∷ views) none = absurd (omega arith)
 -- a view that has as many lists as there are has them all
 view-whole : (views : List Lists) (id : ℕ) (view : Lists) → get_elem? views id ≡ some view → length view ≡ total length views → all_of views ≡ view
 view-whole [] id view there all = absurd (some-ne-none view (sym there))
-view-whole (first ∷ views) zero view there all =
-    let same : first ≡ view = some-injective first view there in
-    ap (λ rest. first ++ rest) (none-left views (omega (arith, ap length same))) ∙ (append-nil first ∙ same)
+view-whole (first ∷ views) zero view there all = grind (arith, none-left, append-nil)
 view-whole ([] ∷ views) (suc id) view there all = view-whole views id view there (omega arith)
 view-whole ((list ∷ lists) ∷ views) (suc id) view there all = absurd (omega (arith, total-set length views id view [] there))
 

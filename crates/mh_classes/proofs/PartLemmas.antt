@@ -1,16 +1,13 @@
 -- The parts of an object: which part stands at which number, and what each is.
-use Rattle.std.proofs.Common.{◌≡◌, ℕ, zero, suc, ◌+◌, ◌-◌, ◌*◌, ◌<◌, ◌≤◌, min, nat_le, nat_lt, if◌then◌else◌, inl, inr, [], ◌∷◌, length, slice_get, Some, sym, ap, ◌∙◌, subst, arith}
-use Rattle.std.proofs.lemmas.Bool.{cases_Bool, le-leb, lt-leb, leb-true, leb-false, ltb-true, ltb-false}
+use Rattle.std.proofs.Common.{◌≡◌, ℕ, zero, suc, ◌+◌, ◌-◌, ◌<◌, ◌≤◌, nat_le, nat_lt, inl, inr, length, slice_get, Some, sym, ap, ◌∙◌, subst, arith}
+use Rattle.std.proofs.lemmas.Bool.{cases_Bool, leb-true, leb-false, ltb-true, ltb-false}
 use Rattle.std.proofs.lemmas.Option.{same_Some, slice_get_within}
 use Rattle.mh_model.specs.Classes.{Part, tabulate, plain_part, spine_part, middle_spine, arraylet, run_count, middle_count, child_count, spine_parts, parts}
 use Rattle.mh_model.proofs.TabulateLemmas.{length-tabulate}
-use Rattle.mh_table_laws.proofs.objects.Parts.{slice-tabulate, slice-right, counts, length-one, length-parts, middle_at}
-use Rattle.mh_classes.specs.Fits.{IsPart}
+use Rattle.mh_table_laws.proofs.objects.Parts.{slice-tabulate, slice-right, length-parts, middle_at}
+use Rattle.mh_classes.specs.Auxiliary.{IsPart}
 
 -- Parts by size --------------------------------------------------------------------------------
-
-parts_small : (r n : ℕ) → r + n ≤ 60 → parts r n ≡ plain_part r n ∷ []
-parts_small r n few = grind arith
 
 parts_large : (r n : ℕ) → 60 < r + n → parts r n ≡ spine_parts r n
 parts_large r n many = grind arith

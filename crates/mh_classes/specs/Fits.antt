@@ -10,11 +10,6 @@ pub record FitsItsHeader (part : Part) : Type 0 where
   pub few_references : part.header.references < 2 ^ 20
   pub few_numbers : part.header.numbers < 2 ^ 20
 
--- what holds of every part of an object that isn't too large: it fits its header, and has at most 60 references and numbers
-pub record IsPart (part : Part) : Type 0 where
-  pub few : part.references + part.numbers ≤ 60
-  pub fits : FitsItsHeader part
-
 -- a list holds the parts of some object of at most 216,000 fields
 abbrev pub AreParts : List Part → Type 0
 AreParts list = (references : ℕ) × (numbers : ℕ) × (references + numbers ≤ 216000) × (list ≡ parts references numbers)

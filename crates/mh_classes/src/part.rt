@@ -25,7 +25,7 @@ pub struct Part {
 
 impl Model for Part {
     ghost use Rattle.mh_model.specs.Classes as book;
-    ghost use Rattle.mh_classes.specs.Fits.{IsPart};
+    ghost use Rattle.mh_classes.specs.Auxiliary.{IsPart};
 
     ghost Value = { book.Part };
 

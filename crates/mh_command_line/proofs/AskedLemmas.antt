@@ -5,7 +5,8 @@ use Rattle.std.specs.{Prelude.{IfSome, IsSome, IsSomeAnd, find}, Borrow.Bor, Opt
 use Rattle.clap.proofs.WalkLemmas.{find-map}
 use Rattle.clap.specs.Words.{IsUnsignedIn, Row, Text, one_of}
 use Rattle.mh_command_line.specs.{declared.table.Kind.Kind, declared.table.Kind.TheVariants.{Needed, Number}}
-use Rattle.mh_command_line.specs.Table.{AllPass, Choice, OptionRule, Passes, RuleRow, Subcommand, SubcommandRow, first_subcommands, last_subcommands, rule_of_row, subcommand_of_row, table}
+use Rattle.mh_command_line.specs.Table.{AllPass, Choice, OptionRule, Passes, Subcommand, first_subcommands, last_subcommands, table}
+use Rattle.mh_command_line.specs.Auxiliary.{RuleRow, SubcommandRow, rule_of_row, subcommand_of_row}
 use Rattle.mh_command_line.specs.Values.{breaks, is_flagged, lacks_profile, lacks_rates, lacks_share}
 use Rattle.mh_command_line.specs.{Orders.{HasNoConfig, Takes, broken_rule}, Sizes.{HasNoCounts, has_heap}}
 

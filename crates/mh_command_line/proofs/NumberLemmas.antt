@@ -6,8 +6,9 @@ use Rattle.clap.proofs.WalkLemmas.{both}
 use Rattle.clap.specs.{Matches.ReadsOne, Walk.{Row, Text, one_of}}
 use Rattle.mh_model.specs.{Configs.{configured_by, configured_under}, Limits.{is_configuration, least_quantum}}
 use Rattle.mh_model.specs.{declared.config.Config.Config, declared.config.Rules.Rules}
-use Rattle.mh_command_line.specs.Values.{HoldsNumber, IsHeld, IsNumber, ReadsNumber, number_in_digits}
-use Rattle.mh_command_line.specs.Orders.{AreOutside, HasNumbers, IsBlamed, IsOutsideBy, MakesConfig, ConfigNumbers, config_under}
+use Rattle.mh_command_line.specs.Auxiliary.{HoldsNumber, IsBlamed}
+use Rattle.mh_command_line.specs.Values.{IsHeld, IsNumber, ReadsNumber, number_in_digits}
+use Rattle.mh_command_line.specs.Orders.{AreOutside, HasNumbers, IsOutsideBy, MakesConfig, ConfigNumbers, config_under}
 use Rattle.mh_command_line.specs.declared.options.OptionNumber.{OptionNumber}
 use Rattle.mh_orders.specs.declared.order.ConfigOption.{ConfigOption, TheVariants.{Pages, Quantum, Trigger, Every}}
 

@@ -129,9 +129,6 @@ module _ (p : Text → ValueParser) (plain : (id : Text) → reading_of (p id) �
     defaults = λ rows all. same_either (has_row name rows) rows all;
   }
 
-  pub safe-value : (name : Text) (i : ℕ) → IsSafe (with_index i (filled (value_rule (p name) name)))
-  safe-value name i = safe-given false name i
-
   -- a flag, which has one value if it is left out too
   pub safe-flag : (name : Text) (i : ℕ) → p name ≡ ValueParser.Bool → IsSafe (with_index i (filled (flag_rule name)))
   safe-flag name i is = record {

@@ -13,8 +13,9 @@ use Rattle.mh_command_line.specs.declared.fault.LineFault.{LineFault}
 use Rattle.mh_command_line.specs.declared.fault.LineFault.TheVariants.{Words, NotText, Configuration, NoMemory}
 use Rattle.mh_command_line.specs.declared.options.OptionFault.{OptionFault}
 use Rattle.mh_command_line.specs.declared.options.OptionFault.TheVariants.{Breaks, NoNumber, Missing, Outside}
-use Rattle.mh_command_line.specs.{declared.table.Rule.Rule, Table.{metroheap, rule_of_row}}
-use Rattle.mh_command_line.specs.Orders.{AreAmiss, AskAmiss, AsksVersion, BreakRule, Gives, GivesOrder, HasFewWorkers, HasFirstRules, HasOptionFault, IsFault, IsMissing, IsNoNumber, IsOutside, IsSaidOfRefusal, Named, NamesOne, NotMet, NotTaken, RefusesOptions, Takes, kind_of_fault, rule_kind}
+use Rattle.mh_command_line.specs.{declared.table.Rule.Rule, Table.metroheap}
+use Rattle.mh_command_line.specs.Auxiliary.{rule_of_row, HasOptionFault, IsSaidOfRefusal, NamesOne, RefusesOptions, kind_of_fault}
+use Rattle.mh_command_line.specs.Orders.{AreAmiss, AskAmiss, AsksVersion, BreakRule, Gives, GivesOrder, HasFewWorkers, HasFirstRules, IsFault, IsMissing, IsNoNumber, IsOutside, Named, NotMet, NotTaken, Takes, rule_kind}
 use Rattle.mh_command_line.proofs.SoundLemmas.{names_one}
 
 abbrev is_version : ErrorKind → Bool

@@ -12,7 +12,7 @@ use Rattle.clap.specs.Takes.{is_given}
 use Rattle.clap.specs.Walk.{Row, Rule, Text, Walk, answers_to, finished, nothing_held, one_of, rows_after, settled, walk_from}
 use Rattle.mh_command_line.specs.{declared.table.Kind.Kind, declared.table.Kind.TheVariants.{Flag, Number, Needed}}
 use Rattle.mh_command_line.specs.Table.{AllPass, Choice, IsFlagText, Subcommand, app_with, choice_rule, metroheap, table}
-use Rattle.mh_command_line.specs.Orders.{NamesOne, Takes}
+use Rattle.mh_command_line.specs.{Auxiliary.NamesOne, Orders.Takes}
 use Rattle.mh_command_line.proofs.OptionLemmas.{AreRead, AreSafe, IsSafe, level-read, never, none-missing, none_first, none_next, safe-flag, safe-given, safe-help, value-given, value-may, value_rule}
 use Rattle.clap.specs.Walk as walk
 

@@ -2,7 +2,8 @@
 use Rattle.std.proofs.Common.{◌≡◌, ◌∙◌, ◌<◌, ◌+◌, ℕ, List, [], ◌∷◌, ◌++◌, length, map, fold, take, get_or, suc, refl, sym, ap, arith}
 use Rattle.std.proofs.{lemmas.List.Sums.fold_more, lemmas.List.Folds.fold-map, Math.Seq.take-suc}
 use Rattle.clap.specs.Words.{App, Rule, Text, with_rule, with_subcommand}
-use Rattle.mh_command_line.specs.Table.{OptionRow, SubcommandRow, app_with, choice_of, choice_rule, clap_rule, subcommand_of_row, with_its_app}
+use Rattle.mh_command_line.specs.Auxiliary.{OptionRow, SubcommandRow, choice_of, subcommand_of_row}
+use Rattle.mh_command_line.specs.Table.{app_with, choice_rule, clap_rule, with_its_app}
 
 map-more : {A B : Type 0} (f : A → B) (xs : List A) (y : A) → map f (xs ++ y ∷ []) ≡ map f xs ++ f y ∷ []
 map-more f [] y = refl

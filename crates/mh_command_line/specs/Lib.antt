@@ -6,3 +6,4 @@ pub mod Shares
 pub mod Sizes
 pub mod Table
 pub mod Values
+pub mod Auxiliary

@@ -2,7 +2,7 @@
 use Rattle.std.specs.Prelude.{◌≡◌, ◌≢◌, ◌⊎◌, ◌<◌, ◌≤◌, ◌/◌, ℕ, zero, suc, true, false, not, if◌then◌else◌, List, [], Option, Some, None, Result, Ok, Err, codes, find, IsSomeAnd, MatchOption}
 use Rattle.std.specs.{Option.option_map_or, Str.bytes_eq}
 use Rattle.clap.specs.declared.error.kind.ErrorKind.{ErrorKind}
-use Rattle.clap.specs.declared.error.kind.ErrorKind.TheVariants.{ArgumentConflict, DisplayVersion, MissingRequiredArgument, OutOfMemory, ValueValidation}
+use Rattle.clap.specs.declared.error.kind.ErrorKind.TheVariants.{ArgumentConflict, DisplayVersion, MissingRequiredArgument, ValueValidation}
 use Rattle.clap.specs.Words.{Row, Text, one_of, subcommand_of, fault_of, kind_of, IsAmong}
 use Rattle.mh_orders.specs.{declared.range.RangeOptions.RangeOptions, declared.generate_options.Controls.Controls}
 use Rattle.mh_orders.specs.declared.generate_options.Controls.TheVariants.{ByChance, Each, Never}
@@ -22,11 +22,9 @@ use Rattle.mh_model.specs.{declared.config.Rules.Rules, declared.config.Rules.Th
 use Rattle.mh_model.specs.Limits.{least_quantum}
 use Rattle.mh_command_line.specs.declared.fault.LineFault.{LineFault}
 use Rattle.mh_command_line.specs.declared.fault.LineFault.TheVariants.{Words, NotText, Configuration, NoMemory}
-use Rattle.mh_command_line.specs.declared.options.OptionFault.{OptionFault}
-use Rattle.mh_command_line.specs.declared.options.OptionFault.TheVariants.{Breaks, NoNumber, Missing, Outside}
 use Rattle.mh_command_line.specs.{declared.table.Rule.Rule, Curves.AreCurveOptions}
 use Rattle.mh_command_line.specs.Sizes.{AreRoomOptions, AreScriptOptions, AreTargetOptions}
-use Rattle.mh_command_line.specs.Table.{AllPass, OptionRule, metroheap, rule_of_row, table}
+use Rattle.mh_command_line.specs.Table.{AllPass, OptionRule, metroheap, table}
 use Rattle.mh_command_line.specs.Values.{HasNumber, IsConfigOption, LacksNumber, breaks, is_flagged, number_or, optional_number, rules_chosen, rules_given, workers_of}
 use Rattle.mh_orders.specs.declared.steps.StepsForm.TheVariants as form
 
@@ -172,10 +170,6 @@ HasFirstRules order = Unit {0}
 abbrev pub Takes : Text → List Row → Type 0
 Takes name rows = IsSomeAnd (find (λ row. bytes_eq row.0 name) table) (λ row. AllPass rows row.1)
 
--- the words name one
-abbrev pub NamesOne : Option (Text × List Row) → Type 0
-NamesOne matched = IsSomeAnd matched (λ subcommand. Takes subcommand.0 subcommand.1)
-
 -- the first of the rules of a subcommand that the options break
 abbrev pub broken_rule : Text → List Row → Option OptionRule
 broken_rule name rows = option_map_or (λ row. find (breaks rows) row.2) (find (λ row. bytes_eq row.0 name) table) None
@@ -207,24 +201,6 @@ IsAbovePages rows option = (option ≡ Trigger) × (generated_config rows ≡ No
 -- the subcommand wants a configuration, and this one of its numbers is outside its limits
 abbrev pub IsOutside : Text → List Row → ConfigOption → Type 0
 IsOutside name rows option = (WantsConfig name rows × AreOutside rows option) ⊎ ((name ≡ codes "generate") × IsAbovePages rows option)
-
--- the option that is blamed of numbers that are no configuration: one that is outside its limits, and that of the trigger if no other is
-abbrev pub IsBlamed : (pages quantum every : ℕ) → ConfigOption → Type 0
-IsBlamed pages quantum every Trigger = (1 ≤ pages) × (pages ≤ 4096) × (least_quantum ≤ quantum) × (quantum ≤ 1000000) × (every ≤ 1000000)
-IsBlamed pages quantum every option = IsOutsideBy option (record { pages = pages; quantum = quantum; trigger = 0; every = every })
-
--- what is wrong with the options of a configuration: one is no number, or is missing, or is outside its limits
-abbrev pub IsNumberFault : List Row → OptionFault → Type 0
-IsNumberFault rows (Breaks row text) = ⊥
-IsNumberFault rows (NoNumber name text) = IsConfigOption name.now × LacksNumber rows name.now
-IsNumberFault rows (Missing name) = IsConfigOption name.now × (one_of name.now rows ≡ None)
-IsNumberFault rows (Outside option) = AreOutside rows option
-
--- what is wrong with those of a subcommand: they break a rule; one is outside its limits; or these are, if it wants a configuration
-abbrev pub HasOptionFault : Text → List Row → OptionFault → Type 0
-HasOptionFault subcommand rows (Breaks row text) = broken_rule subcommand rows ≡ Some (rule_of_row row)
-HasOptionFault subcommand rows (Outside option) = IsOutside subcommand rows option
-HasOptionFault subcommand rows fault = WantsConfig subcommand rows × IsNumberFault rows fault
 
 -- the kind by which `clap` refuses options that break a rule
 abbrev pub rule_kind : Rule → ErrorKind
@@ -291,25 +267,3 @@ IsUnread fault = ⊥
 abbrev pub OrdersBy : List Text → Result Order LineFault → Type 0
 OrdersBy words (Ok order) = GivesOrder words order
 OrdersBy words (Err fault) = IsFault words fault
-
--- Refusals ---------------------------------------------------------------------------------------
-
--- the kind by which `clap` refuses options with a fault, which is none of its own if a number is outside its limits
-abbrev pub kind_of_fault : OptionFault → Option ErrorKind
-kind_of_fault (Breaks row text) = Some (rule_kind row.0)
-kind_of_fault (NoNumber name text) = Some ValueValidation
-kind_of_fault (Missing name) = Some MissingRequiredArgument
-kind_of_fault (Outside option) = None
-
--- what is said of options with a fault
-abbrev pub RefusesOptions : OptionFault → LineFault → Type 0
-RefusesOptions fault (Words error) = kind_of_fault fault ≡ Some (kind_of error)
-RefusesOptions fault NoMemory = kind_of_fault fault ≢ None
-RefusesOptions (Outside option) (Configuration refused) = refused ≡ option
-RefusesOptions fault line = ⊥
-
--- what is said of words that `clap` refuses with this kind of fault: that, or that memory was refused
-abbrev pub IsSaidOfRefusal : ErrorKind → LineFault → Type 0
-IsSaidOfRefusal kind (Words error) = (kind ≢ OutOfMemory) × (kind_of error ≡ kind)
-IsSaidOfRefusal kind NoMemory = Unit {0}
-IsSaidOfRefusal kind line = ⊥

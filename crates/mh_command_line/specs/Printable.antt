@@ -1,9 +1,5 @@
 -- What can be printed on standard error.
-use Rattle.std.specs.{Prelude.{◌≡◌, ◌≤◌, ◌⊎◌, ℕ, Bool, List, ◌&&◌, nat_le}, List.All}
-
--- the byte can be printed: it is a space, a letter, a digit or another sign of ASCII
-abbrev pub is_printable : ℕ → Bool
-is_printable byte = nat_le 32 byte && nat_le byte 126
+use Rattle.std.specs.{Prelude.{◌≡◌, ◌≤◌, ◌⊎◌, ℕ, List}, List.All}
 
 abbrev pub IsSign : ℕ → Type 0
 IsSign byte = (32 ≤ byte) × (byte ≤ 126)

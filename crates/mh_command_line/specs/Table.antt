@@ -1,6 +1,5 @@
 -- What the table of options says: what `clap` is given, which values it lets pass, and which options go together.
 use Rattle.std.specs.Prelude.{◌≡◌, ◌⊎◌, true, List, [], ◌∷◌, ◌++◌, Option, Some, fold, map, codes, IfSome, IsSomeAnd}
-use Rattle.std.specs.Borrow.{Bor}
 use Rattle.clap.specs.Words.{App, IsUnsignedIn, Row, Text, new_app, new_rule, one_of, with_subcommand, Rule as ClapRule}
 use Rattle.clap.specs.declared.builder.action.ArgAction.TheVariants.{SetTrue}
 use Rattle.clap.specs.declared.builder.value_parser.ValueParser.{ValueParser}
@@ -20,25 +19,6 @@ OptionRule = Rule × Kind × Text × Kind × Text × Text
 -- a subcommand: its name, its options, and their rules
 abbrev pub Subcommand : Type 0
 Subcommand = Text × List Choice × List OptionRule
-
--- the rows of the code, without what help says
-abbrev pub OptionRow : Type 0
-OptionRow = Bor Text × Bor Text × Kind × Bor Text
-
-abbrev pub RuleRow : Type 0
-RuleRow = Rule × Kind × Bor Text × Kind × Bor Text × Bor Text
-
-abbrev pub SubcommandRow : Type 0
-SubcommandRow = Bor Text × Bor Text × Bor Text × Bor Text × Bor (List OptionRow) × Bor (List RuleRow)
-
-abbrev pub choice_of : OptionRow → Choice
-choice_of row = (row.0.now, row.2)
-
-abbrev pub rule_of_row : RuleRow → OptionRule
-rule_of_row row = (row.0, row.1, row.2.now, row.3, row.4.now, row.5.now)
-
-abbrev pub subcommand_of_row : SubcommandRow → Subcommand
-subcommand_of_row row = (row.0.now, map choice_of row.4.now, map rule_of_row row.5.now)
 
 -- the table, of its two parts
 abbrev pub first_subcommands : List Subcommand

@@ -1,5 +1,5 @@
 -- What the options in the matches of `clap` say, and which rules of the table they break.
-use Rattle.std.specs.Prelude.{◌≡◌, ◌⊎◌, ◌<◌, ◌≤◌, ◌==◌, ◌&&◌, not, if◌then◌else◌, ℕ, Bool, false, List, [], ◌∷◌, Option, Some, Result, Ok, Err, codes, is_some, option_map, unwrap_or, IsSomeAnd}
+use Rattle.std.specs.Prelude.{◌≡◌, ◌⊎◌, ◌<◌, ◌≤◌, ◌==◌, ◌&&◌, not, if◌then◌else◌, ℕ, Bool, false, List, [], ◌∷◌, Option, Result, Ok, Err, codes, is_some, option_map, unwrap_or, IsSomeAnd}
 use Rattle.std.specs.{List.list_any, Option.option_map_or, Str.bytes_eq}
 use Rattle.std.specs.Str.Parse.{IsNumeral, digits_value, without_leading_plus}
 use Rattle.clap.specs.Words.{Row, Text, one_of}
@@ -64,10 +64,6 @@ IsHeld n held = ((n ≤ 4294967295) × (held ≡ n)) ⊎ ((4294967295 < n) × (h
 abbrev pub ReadsNumber : Text → Result OptionNumber NotNumber → Type 0
 ReadsNumber text (Ok number) = IsNumber text × IsHeld (number_in_digits text) number.value
 ReadsNumber text (Err fault) = ¬ (IsNumber text)
-
--- the option is given with a number that is held so
-abbrev pub HoldsNumber : List Row → Text → ℕ → Type 0
-HoldsNumber rows name held = IsSomeAnd (one_of name rows) (λ text. IsNumber text × IsHeld (number_in_digits text) held)
 
 -- Rules ------------------------------------------------------------------------------------------
 

@@ -1,7 +1,8 @@
 //! What the options of each subcommand ask for, of which no rule is broken.
 ghost use Rattle.std.specs.Prelude.{◌≡◌, ◌<◌, ◌≤◌, None, codes, IfOk, IfErr, IfSome};
 ghost use Rattle.clap.specs.Words.{IsUnsignedIn, found_of, one_of, rows_of};
-ghost use Rattle.mh_command_line.specs.Orders.{AreLiveOptions, AreRangeOptions, AreRunOptions, AreStepsOptions, HasFewWorkers, HasFirstRules, HasOptionFault, IsOrder, Takes, broken_rule};
+ghost use Rattle.mh_command_line.specs.Orders.{AreLiveOptions, AreRangeOptions, AreRunOptions, AreStepsOptions, HasFewWorkers, HasFirstRules, IsOrder, Takes, broken_rule};
+ghost use Rattle.mh_command_line.specs.Auxiliary.{HasOptionFault};
 
 use crate::curve_options::curve_asked;
 use crate::generate_options::generate_asked;

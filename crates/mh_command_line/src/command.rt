@@ -4,7 +4,8 @@
 //! `clap`'s own subcommand `help` is turned off, so the subcommand that it finds is one of the program's.
 ghost use Rattle.std.specs.Prelude.{◌≡◌, IfOk, false, fold, map};
 ghost use Rattle.clap.specs.{Words.{app_of, rule_of}, declared.builder.command.Command.TheViews.out-Command};
-ghost use Rattle.mh_command_line.specs.Table.{app_with, choice_of, clap_rule, finished_app, first_subcommands, last_subcommands, metroheap, subcommand_of_row, with_its_app};
+ghost use Rattle.mh_command_line.specs.Table.{app_with, clap_rule, finished_app, first_subcommands, last_subcommands, metroheap, with_its_app};
+ghost use Rattle.mh_command_line.specs.Auxiliary.{choice_of, subcommand_of_row};
 
 use crate::table::{FIRST_SUBCOMMANDS, Kind, LAST_SUBCOMMANDS, OptionRow, Subcommand};
 use clap::builder::ValueParser;

@@ -6,8 +6,8 @@ ghost use Rattle.std.specs.Prelude.{◌≡◌, None, Some, codes, false, IfOk, I
 ghost use Rattle.clap.specs.Words.{found_of, rows_of};
 ghost use Rattle.mh_model.specs.declared.config.Rules.TheVariants.{Second};
 ghost use Rattle.mh_orders.specs.Given.{is_controls_within};
-ghost use Rattle.mh_command_line.specs.Orders.{AreGenerateOptions, AsksProfile, HasOptionFault, Takes, broken_rule, controls_of, generated_config};
-ghost use Rattle.mh_command_line.specs.Values.{lacks_profile};
+ghost use Rattle.mh_command_line.specs.Orders.{AreGenerateOptions, AsksProfile, Takes, broken_rule, controls_of, generated_config};
+ghost use Rattle.mh_command_line.specs.{Auxiliary.HasOptionFault, Values.lacks_profile};
 
 use crate::options::{OptionFault, large_needed, needed, number, rules_asked};
 use clap::ArgMatches;

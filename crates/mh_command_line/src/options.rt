@@ -11,9 +11,9 @@
 ghost use Rattle.std.specs.Prelude.{◌≡◌, ◌<◌, ◌≤◌, ◌↔◌, codes, is_some, IfOk, IfErr, IfSome, IsSomeAnd, IsTrue, find};
 ghost use Rattle.std.specs.{Char.is_digit, List.list_all, Str.Parse.without_leading_plus};
 ghost use Rattle.clap.specs.Words.{IsUnsignedIn, found_of, one_of, rows_of};
-ghost use Rattle.mh_command_line.specs.Table.{rule_of_row};
-ghost use Rattle.mh_command_line.specs.Values.{HasNumber, HoldsNumber, IsConfigOption, IsNumber, ReadsNumber, breaks, is_flagged, is_given, lacks_profile, lacks_rates, lacks_share, optional_number, rules_chosen, rules_given, rules_numbered, workers_of};
-ghost use Rattle.mh_command_line.specs.Orders.{IsBlamed, IsNumberFault, MakesConfig};
+ghost use Rattle.mh_command_line.specs.Auxiliary.{rule_of_row, HoldsNumber, IsBlamed, IsNumberFault};
+ghost use Rattle.mh_command_line.specs.Values.{HasNumber, IsConfigOption, IsNumber, ReadsNumber, breaks, is_flagged, is_given, lacks_profile, lacks_rates, lacks_share, optional_number, rules_chosen, rules_given, rules_numbered, workers_of};
+ghost use Rattle.mh_command_line.specs.Orders.{MakesConfig};
 
 use crate::rates::AskedRates;
 use crate::share::AskedShare;

@@ -17,8 +17,9 @@ ghost use Rattle.std.specs.{Prelude.{◌≡◌, IfOk, IfErr, IsSomeAnd, Err, fin
 ghost use Rattle.std.specs.Str.{bytes_eq};
 ghost use Rattle.clap.specs.Words.{found_of, kind_of, rows_of, subcommand_rows_of};
 ghost use Rattle.clap.specs.declared.error.kind.ErrorKind.TheVariants.{ArgumentConflict, MissingRequiredArgument, ValueValidation};
-ghost use Rattle.mh_command_line.specs.Orders.{Gives, GivesOrder, HasFewWorkers, HasFirstRules, HasOptionFault, IsFault, IsSaidOfRefusal, NamesOne, RefusesOptions, Takes, broken_rule, rule_kind};
-ghost use Rattle.mh_command_line.specs.Table.{rule_of_row, subcommand_of_row, table};
+ghost use Rattle.mh_command_line.specs.Orders.{Gives, GivesOrder, HasFewWorkers, HasFirstRules, IsFault, Takes, broken_rule, rule_kind};
+ghost use Rattle.mh_command_line.specs.Auxiliary.{HasOptionFault, IsSaidOfRefusal, NamesOne, RefusesOptions, rule_of_row, subcommand_of_row};
+ghost use Rattle.mh_command_line.specs.Table.{table};
 
 use crate::asked::order_named;
 use crate::command::{command, first_subcommands, last_subcommands, subcommand};

@@ -7,7 +7,7 @@
 //! Of the text that `clap` gives for refused words a contract says only which bytes it may have (`printable`). What
 //! `signs` leaves is one line.
 ghost use Rattle.std.specs.{Prelude.{◌≡◌, IfOk}, List.All};
-ghost use Rattle.mh_command_line.specs.Printable.{is_printable, IsPrintable, IsPrintableByte, IsSign};
+ghost use Rattle.mh_command_line.specs.{Auxiliary.is_printable, Printable.{IsPrintable, IsPrintableByte, IsSign}};
 
 use std::alloc::{AllocError, Global};
 use std::convert::AsStr;

@@ -1,5 +1,5 @@
 -- A batch of marking is one stride.
-use Rattle.std.proofs.Common.{◌≡◌, ℕ, ◌+◌, ◌<◌, ◌≤◌, ◌==◌, ◌⊎◌, inl, inr, Bool, false, if◌then◌else◌, List, [], ◌∷◌, ◌++◌, length, drop, refl, sym, ap, ◌∙◌, subst, arith}
+use Rattle.std.proofs.Common.{◌≡◌, ℕ, ◌+◌, ◌<◌, ◌≤◌, ◌==◌, ◌⊎◌, inl, inr, Bool, if◌then◌else◌, List, [], ◌∷◌, ◌++◌, length, drop, refl, sym, ap, ◌∙◌, subst, arith}
 use Rattle.std.proofs.{Math.Seq.drop-append_seam, lemmas.List.Sums.sum_by-cons}
 use Rattle.mh_model.specs.{declared.config.Config.Config, declared.cycle.Phase.Phase}
 use Rattle.mh_model.specs.{declared.cycle.Phase.TheVariants.{Mark, Sweep}, Pages.Table, Table.Block}
@@ -8,7 +8,7 @@ use Rattle.mh_model.specs.Batches.{NoneTwice, batch_cost, batch_marked, after_ba
 use Rattle.mh_laws.specs.Batches.{AnyCutIntoBatchesIsTheSame}
 use Rattle.mh_grey.specs.Queue.{Queue}
 use Rattle.mh_mark.specs.Batched.{front_of, front_marked}
-use Rattle.mh_cycle.specs.{State.IsFramed, Advance.{IsStride, IsStretch}}
+use Rattle.mh_cycle.specs.Auxiliary.{IsFramed, IsStride, IsStretch}
 use Rattle.mh_cycle.proofs.{StepLemmas.{cost-is, after-mark}, StrideLemmas.{stride-none, over}}
 
 some_batch : (table : Table Block) (batch : List ℕ) → 0 < batch_cost table batch → 0 < length batch
@@ -25,11 +25,7 @@ rest_of left c = drop (length (front_of left (marking_of c))) c.grey
 
 batch-goes : AnyCutIntoBatchesIsTheSame → (left : ℕ) (c : Collector) → c.phase ≡ Mark → NoneTwice c.grey → 0 < batch_cost c.table (front_of left (marking_of c)) → (moved : Bool)
     → IsStride (batch_cost c.table (front_of left (marking_of c))) moved c moved (after_batch c (front_of left (marking_of c)) (rest_of left c))
-batch-goes law left c phase once some moved more fits =
-    let batch : List ℕ = longest_front 1024 c.table left c.grey in
-    let is = law.longest 1024 c.table left c.grey in
-    let rest : rest_of left c ≡ is.rest = ap (drop (length batch)) is.is_front ∙ drop-append_seam batch is.rest in
-    law.begins c batch (rest_of left c) more moved phase (is.is_front ∙ ap (λ r. batch ++ r) (sym rest)) once (some_batch c.table batch some) fits
+batch-goes law left c phase once some moved more fits = grind (arith, drop-append_seam, some_batch)
 
 batch-stops : AnyCutIntoBatchesIsTheSame → (left : ℕ) (c : Collector) → c.phase ≡ Mark → 0 < length c.grey → batch_cost c.table (front_of left (marking_of c)) ≡ 0 → (moved : Bool) → left < step_cost c moved
 batch-stops law left c phase some none moved =
@@ -67,11 +63,7 @@ framed-as config table other phase cursor grey same frame a b = rw (a, b) frame
 pub run-none : AnyCutIntoBatchesIsTheSame → (left cost : ℕ) (c : Collector) → c.phase ≡ Mark → 0 < length c.grey → cost ≡ batch_cost c.table (front_of left (marking_of c)) → cost ≡ 0 → IsStretch left c 0 (with_marking c (front_marked left (marking_of c)))
 run-none law left cost c phase some price none =
     let same : with_marking c (front_marked left (marking_of c)) ≡ c = ap (with_marking c) (none-marked left cost (marking_of c) price none) in
-    subst (IsStretch left c 0) (sym same) (record {
-      fits = omega arith;
-      goes = λ moved. stride-none moved c;
-      dear = λ e. over left (step_cost c false) false c refl (batch-stops law left c phase some (sym price ∙ none) false);
-    })
+    grind (arith, stride-none, over, batch-stops)
 
 -- some blocks fit
 pub run-some : AnyCutIntoBatchesIsTheSame → (left : ℕ) (c : Collector) (cost : ℕ) (phase : Phase) → c.phase ≡ Mark → NoneTwice c.grey → cost ≡ batch_cost c.table (front_of left (marking_of c)) → cost ≤ left → (cost ≡ 0 → ⊥)

@@ -5,11 +5,11 @@ use Rattle.mh_model.specs.declared.cycle.Phase.{Phase}
 use Rattle.mh_model.specs.declared.cycle.Phase.TheVariants.{Idle, Roots, Mark, Sweep, Defrag}
 use Rattle.mh_model.specs.Pages.{Page, Table, page_number, slot_number, page_at, block_in}
 use Rattle.mh_model.specs.Table.{Block, references_at}
-use Rattle.mh_model.specs.Collector.{Collector, Marking, Move, mark_reference, swept_page, move_of, next_move, flagged_page, move_cost, first_mark_cost, marking_of, cost_in, step_cost, collector_step, is_idle, is_moving}
-use Rattle.mh_model.specs.Deeds.{name_at, edge_of, reference_deeds, mark_deeds, slot_fate, flag_deeds, page_deeds, sweep_deeds, slot_deeds, defrag_deeds, deeds_in, enter_deeds, step_deeds, deed_units, units_of, deeds_of_steps}
+use Rattle.mh_model.specs.Collector.{Collector, Marking, Move, mark_reference, move_of, next_move, flagged_page, move_cost, first_mark_cost, marking_of, cost_in, step_cost, collector_step, is_idle, is_moving}
+use Rattle.mh_model.specs.Deeds.{name_at, edge_of, reference_deeds, mark_deeds, flag_deeds, page_deeds, sweep_deeds, slot_deeds, defrag_deeds, deeds_in, enter_deeds, step_deeds, deed_units, units_of, deeds_of_steps}
 use Rattle.mh_model.specs.declared.deed.Deed.{Deed}
 use Rattle.mh_laws.proofs.costs.Quanta.{step_cost-positive}
-use Rattle.mh_cycle.specs.Advance.{is_over}
+use Rattle.mh_cycle.specs.Auxiliary.{is_over}
 use Rattle.mh_cycle.proofs.StrideLemmas.{over-nothing}
 
 -- Units --------------------------------------------------------------------------------------------
@@ -50,9 +50,7 @@ units-page number was_flagged (Some page) = units-flag number was_flagged page.i
 
 units-sweep : (cycle : ℕ) (table : Table Block) (place : ℕ) (page : Option (Page Block)) → units_of (sweep_deeds cycle table place page) ≡ 1
 units-sweep cycle table place None = refl
-units-sweep cycle table place (Some page) =
-    sum_by-cons deed_units (Deed.Sweep place (slot_fate cycle (block_in (slot_number place) page))) (page_deeds (page_number place) page.is_flagged (swept_page cycle table place page))
-    ∙ ap (λ n. 1 + n) (units-page (page_number place) page.is_flagged (swept_page cycle table place page))
+units-sweep cycle table place (Some page) = grind (arith, sum_by-cons, units-page)
 
 units-slot : (moved : Bool) (place : ℕ) (move : Option Move) → units_of (slot_deeds moved place move) ≡ move_cost moved move
 units-slot moved place None = refl
@@ -112,8 +110,4 @@ deeds-enough (suc more) (suc other) left moved c h k = elim (cases_Bool (is_over
 pub deeds-next : (left : ℕ) (moved : Bool) (c : Collector) → is_idle c.phase ≡ false → step_cost c moved ≤ left
     → deeds_of_steps left left moved c ≡ step_deeds c moved ++ deeds_of_steps (left - step_cost c moved) (left - step_cost c moved) (moved || is_moving c) (collector_step c)
 deeds-next zero moved c runs fits = absurd (omega (arith, step_cost-positive c moved runs))
-deeds-next (suc left) moved c runs fits =
-    let positive : 0 < step_cost c moved = step_cost-positive c moved runs in
-    let goes : is_over (suc left) moved c ≡ false = rw runs (le-ltb (suc left) (step_cost c moved) fits) in
-    deeds-go left (suc left) moved c goes
-    ∙ ap (λ deeds. step_deeds c moved ++ deeds) (deeds-enough left (suc left - step_cost c moved) (suc left - step_cost c moved) (moved || is_moving c) (collector_step c) (omega arith) (omega arith))
+deeds-next (suc left) moved c runs fits = grind (arith, step_cost-positive, le-ltb, deeds-go, deeds-enough)

@@ -8,8 +8,8 @@ use Rattle.mh_laws.specs.Snapshots.{CollectorsStaySteady}
 use Rattle.mh_roots.specs.Roots.{SlotsLead}
 use Rattle.mh_defrag.specs.Moves.{IsTarget, moved}
 use Rattle.mh_defrag.proofs.MoveLemmas.{none-moves}
-use Rattle.mh_cycle.specs.State.{CycleState, state_with_collector, with_slots, with_forwarded, step_beside_slots, forwarded_state}
-use Rattle.mh_cycle.specs.Advance.{order, is_over, IsFrom, IsStride, IsAdvance}
+use Rattle.mh_cycle.specs.State.{CycleState, state_with_collector}
+use Rattle.mh_cycle.specs.Auxiliary.{with_slots, with_forwarded, step_beside_slots, forwarded_state, order, is_over, IsFrom, IsStride, IsAdvance}
 use Rattle.mh_cycle.proofs.StepLemmas.{cost-is, moving-defrag}
 use Rattle.mh_cycle.proofs.StrideLemmas.{stride-none, advance-step, advance-stride, later-step}
 use Rattle.mh_cycle.proofs.HopLemmas.{steady-forwarded, lead-on, step-once, table-after}
@@ -82,8 +82,7 @@ slots-are : (mid new : CycleState) → new ≡ state_with_collector mid (step_be
 slots-are mid new is = ap (λ s. s.collector.slots) is
 
 pub lead-moved : (mid new : CycleState) (target : Option ℕ) → mid.collector.phase ≡ Defrag → IsTarget mid.collector.table mid.collector.cursor target → new ≡ state_with_collector mid (step_beside_slots mid.collector) → SlotsLead mid.collector.table mid.collector.slots → SlotsLead new.collector.table new.collector.slots
-lead-moved mid new target phase of is lead =
-    subst (λ t. SlotsLead t new.collector.slots) (sym (table-is mid new phase is)) (subst (SlotsLead (moved mid.collector.table mid.collector.cursor (next_move mid.collector.table mid.collector.cursor))) (sym (slots-are mid new is)) (lead-on mid.collector.table mid.collector.cursor target mid.collector.slots of lead))
+lead-moved mid new target phase of is lead = grind (arith, table-is, slots-are, lead-on)
 
 -- where no block moved, slots are as they were
 pub still-moved : (m1 m2 : Bool) (mid new : CycleState) (target : Option ℕ) → mid.collector.phase ≡ Defrag → IsTarget mid.collector.table mid.collector.cursor target → new ≡ state_with_collector mid (step_beside_slots mid.collector) → m2 ≡ (m1 || is_some target)

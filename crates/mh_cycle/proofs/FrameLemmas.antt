@@ -8,7 +8,7 @@ use Rattle.mh_model.specs.Collector.{Marking, is_marked, with_grey, shade_block,
 use Rattle.mh_model.specs.Limits.{root_slots}
 use Rattle.mh_grey.proofs.StampLemmas.{length-with_block}
 use Rattle.mh_grey.specs.{Queue.Queue, Shading.marking}
-use Rattle.mh_cycle.specs.State.{IsFramed}
+use Rattle.mh_cycle.specs.Auxiliary.{IsFramed}
 
 length-shade_block : (m : Marking) (place : ℕ) (content : Option Block) → length (shade_block m place content).table ≡ length m.table
 length-shade_block m place None = refl
@@ -50,30 +50,12 @@ some-shade m (Some place) some = some-shade_block m (resolve m.table place) (blo
 
 -- another table with as many pages keeps it, as one that a caller wrote to
 pub framed-long : (config : Config) (table new : Table Block) (phase : Phase) (cursor : ℕ) (grey : Queue) → IsFramed config table phase cursor grey → length new ≡ length table → IsFramed config new phase cursor grey
-framed-long config table new phase cursor grey frame long = record {
-  pages = long ∙ frame.pages;
-  listed = frame.listed ∙ sym long;
-  some = rw long frame.some;
-  roots = frame.roots;
-  mark = frame.mark;
-  sweep = λ e. rw long (frame.sweep e);
-  defrag = λ e. rw long (frame.defrag e);
-}
+framed-long config table new phase cursor grey frame long = grind arith
 
 -- shading keeps the frame
 pub framed-shaded : (config : Config) (table : Table Block) (phase : Phase) (cursor cycle : ℕ) (grey : Queue) (reference : Option ℕ) → IsFramed config table phase cursor grey
     → IsFramed config (shade (marking table grey.places cycle) reference).table phase cursor (record { places = (shade (marking table grey.places cycle) reference).grey; pages = grey.pages })
-framed-shaded config table phase cursor cycle grey reference frame =
-    let long = framed-long config table (shade (marking table grey.places cycle) reference).table phase cursor grey frame (length-shade (marking table grey.places cycle) reference) in
-    record {
-      pages = long.pages;
-      listed = long.listed;
-      some = long.some;
-      roots = long.roots;
-      mark = λ e. some-shade (marking table grey.places cycle) reference (frame.mark e);
-      sweep = long.sweep;
-      defrag = long.defrag;
-    }
+framed-shaded config table phase cursor cycle grey reference frame = grind (arith, framed-long, length-shade, some-shade)
 
 -- a step of the roots keeps it, if more slots are left
 pub framed-roots : (config : Config) (table : Table Block) (phase : Phase) (cursor cycle : ℕ) (grey : Queue) (reference : Option ℕ) → IsFramed config table phase cursor grey → phase ≡ Roots → cursor + 1 ≢ root_slots
@@ -108,12 +90,4 @@ after (place ∷ grey) next is = (λ e. not_roots (length (place ∷ grey) == 0)
 -- marking or the sweep that follows has it
 pub framed-next : (config : Config) (table new : Table Block) (phase next : Phase) (cursor : ℕ) (grey after_grey : Queue) → IsFramed config table phase cursor grey → length new ≡ length table → after_grey.pages ≡ grey.pages → next ≡ (if length after_grey.places == 0 then Sweep else Mark)
     → IsFramed config new next 0 after_grey
-framed-next config table new phase next cursor grey after_grey frame long pages is = record {
-  pages = long ∙ frame.pages;
-  listed = pages ∙ frame.listed ∙ sym long;
-  some = rw long frame.some;
-  roots = λ e. absurd ((after after_grey.places next is).0 e);
-  mark = (after after_grey.places next is).1;
-  sweep = λ e. rw long frame.some;
-  defrag = λ e. rw long frame.some;
-}
+framed-next config table new phase next cursor grey after_grey frame long pages is = grind (arith, after)

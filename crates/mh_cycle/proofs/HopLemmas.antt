@@ -10,7 +10,7 @@ use Rattle.mh_laws.proofs.moving.NextMove.{IsNextMove, next_move-is}
 use Rattle.mh_roots.specs.Roots.{SlotsLead}
 use Rattle.mh_defrag.specs.Moves.{IsTarget, moved}
 use Rattle.mh_defrag.proofs.MoveLemmas.{stays-elsewhere, still-there}
-use Rattle.mh_cycle.specs.State.{with_slots, with_forwarded, step_beside_slots}
+use Rattle.mh_cycle.specs.Auxiliary.{with_slots, with_forwarded, step_beside_slots}
 use Rattle.mh_cycle.proofs.StepLemmas.{slots_moved, defrag-is, defrag-parts, defrag_next, shifted}
 
 -- Slots one by one ---------------------------------------------------------------------------------

@@ -1,9 +1,9 @@
 -- The steps of defragmentation that move no block are one stride.
-use Rattle.std.proofs.Common.{◌≡◌, ℕ, zero, suc, ◌+◌, ◌*◌, ◌/◌, ◌<◌, ◌≤◌, ◌||◌, Bool, length, is_some, refl, sym, ap, ◌∙◌, subst, arith}
+use Rattle.std.proofs.Common.{◌≡◌, ℕ, zero, suc, ◌*◌, ◌/◌, ◌<◌, ◌≤◌, ◌||◌, Bool, length, is_some, sym, ap, ◌∙◌, subst, arith}
 use Rattle.mh_model.specs.declared.cycle.Phase.TheVariants.{Defrag}
 use Rattle.mh_model.specs.Collector.{Collector, move_cost, cycle_end, is_idle, is_moving, collector_step, step_cost}
 use Rattle.mh_defrag.specs.Moves.{moved, AreStill, place_after}
-use Rattle.mh_cycle.specs.Advance.{IsStride}
+use Rattle.mh_cycle.specs.Auxiliary.{IsStride}
 use Rattle.mh_cycle.proofs.StepLemmas.{slots_moved, cost-is, defrag-ends, defrag-goes}
 use Rattle.mh_cycle.proofs.StrideLemmas.{stride-then, stride-one, stride-many, still}
 
@@ -19,22 +19,17 @@ module _ (c : Collector) (n next : ℕ) (phase : c.phase ≡ Defrag) (is : AreSt
   pass-still moved k below = still Defrag moved (run c k) phase (ap is_some (is.stay k below))
 
   pass-step : (k : ℕ) → k < n → place_after c.table c.cursor (suc k) / 64 < length c.table → run c (suc k) ≡ collector_step (run c k)
-  pass-step k below inside =
-      let none = is.stay k below in
-      defrag-goes (run c k) c.table c.slots (place_after c.table c.cursor (suc k)) phase (ap (moved c.table (run c k).cursor) (sym none)) (ap (slots_moved c.table (run c k).cursor c.slots) (sym none)) refl inside
+  pass-step k below inside = grind (arith, defrag-goes, slots_moved)
 
   pass-last : (k : ℕ) → k < n → length c.table ≤ place_after c.table c.cursor (suc k) / 64 → cycle_end (run c (suc k)) ≡ collector_step (run c k)
-  pass-last k below past =
-      let none = is.stay k below in
-      defrag-ends (run c k) c.table c.slots (place_after c.table c.cursor (suc k)) phase (ap (moved c.table (run c k).cursor) (sym none)) (ap (slots_moved c.table (run c k).cursor c.slots) (sym none)) refl past
+  pass-last k below past = grind (arith, defrag-ends, slots_moved)
 
 -- the last of these steps may end the cycle
 passes : (c last : Collector) (n next : ℕ) (moved : Bool) → c.phase ≡ Defrag → AreStill c.table c.cursor (suc n) next → last ≡ collector_step (run c n) → IsStride (suc n) moved c moved last
 passes c last n next moved phase is ends =
     let before : IsStride (n * 1) moved (run c 0) moved (run c n) = stride-many 1 moved (run c) n (λ k h. ap is_idle phase) (λ k h. pass-cost c (suc n) next phase is moved k (omega arith)) (λ k h. sym (pass-still c (suc n) next phase is moved k (omega arith))) (λ k h. pass-step c (suc n) next phase is k (omega arith) (is.inside (suc k) (omega arith))) in
     let one : IsStride 1 moved (run c n) moved last = stride-one 1 moved moved (run c n) last (ap is_idle phase) (sym (pass-cost c (suc n) next phase is moved n (omega arith))) (pass-still c (suc n) next phase is moved n (omega arith)) ends in
-    let e : suc n ≡ n * 1 + 1 = omega arith in
-    rw e (stride-then (n * 1) 1 moved moved moved c (run c n) last before one)
+    grind (arith, stride-then)
 
 pub pass-goes : (c : Collector) (count next : ℕ) (moved : Bool) → c.phase ≡ Defrag → AreStill c.table c.cursor count next → 0 < count → next / 64 < length c.table → IsStride count moved c moved (record c { cursor = next })
 pass-goes c zero next moved phase is some inside = absurd (omega arith)

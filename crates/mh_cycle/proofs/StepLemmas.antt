@@ -6,7 +6,7 @@ use Rattle.mh_model.specs.{Pages.Table, Table.{Block, references_at}}
 use Rattle.mh_model.specs.Collector.{Collector, Move, cycle_end, next_move, next_place, flagged_page, with_move, moved_table, forwarded_slots, is_moving, is_moving_in, is_past, roots_step, mark_step, sweep_step, defrag_step, with_phase, with_marking, marking_of, after_mark, phase_after, step_in, cost_in, first_mark_cost, step_cost, collector_step}
 use Rattle.mh_model.specs.Limits.{root_slots}
 use Rattle.mh_defrag.specs.Moves.{IsTarget, moved}
-use Rattle.mh_cycle.specs.State.{with_slots, step_beside_slots}
+use Rattle.mh_cycle.specs.Auxiliary.{with_slots, step_beside_slots}
 
 pub step-is : (c : Collector) (phase : Phase) → c.phase ≡ phase → collector_step c ≡ phase_after phase (step_in phase c)
 unfolding collector_step
@@ -78,18 +78,12 @@ defrag-parts c phase = go (next_move c.table c.cursor)
 pub defrag-ends : (c : Collector) (table : Table Block) (slots : List (Option ℕ)) (cursor : ℕ) → c.phase ≡ Defrag
     → table ≡ moved c.table c.cursor (next_move c.table c.cursor) → slots ≡ slots_moved c.table c.cursor c.slots (next_move c.table c.cursor) → cursor ≡ next_place c.cursor (flagged_page c.table c.cursor)
     → length table ≤ cursor / 64 → cycle_end (shifted c table slots cursor) ≡ collector_step c
-defrag-ends c table slots cursor phase a b d past =
-    let r : Collector = shifted c table slots cursor in
-    let is : r ≡ defrag_step c = rw (a, b, d) (sym (defrag-parts c phase)) in
-    sym (defrag-is c phase ∙ ap (λ x. defrag_next x (is_past x.table x.cursor)) (sym is) ∙ ap (defrag_next r) (le-leb (length table) (cursor / 64) past))
+defrag-ends c table slots cursor phase a b d past = grind (arith, defrag-parts, defrag-is, le-leb)
 
 pub defrag-goes : (c : Collector) (table : Table Block) (slots : List (Option ℕ)) (cursor : ℕ) → c.phase ≡ Defrag
     → table ≡ moved c.table c.cursor (next_move c.table c.cursor) → slots ≡ slots_moved c.table c.cursor c.slots (next_move c.table c.cursor) → cursor ≡ next_place c.cursor (flagged_page c.table c.cursor)
     → cursor / 64 < length table → shifted c table slots cursor ≡ collector_step c
-defrag-goes c table slots cursor phase a b d inside =
-    let r : Collector = shifted c table slots cursor in
-    let is : r ≡ defrag_step c = rw (a, b, d) (sym (defrag-parts c phase)) in
-    sym (defrag-is c phase ∙ ap (λ x. defrag_next x (is_past x.table x.cursor)) (sym is) ∙ ap (defrag_next r) (lt-leb (length table) (cursor / 64) inside))
+defrag-goes c table slots cursor phase a b d inside = grind (arith, defrag-parts, defrag-is, lt-leb)
 
 -- the same of steps that leave the slots
 pub beside-ends : (c : Collector) (table : Table Block) (cursor : ℕ) → c.phase ≡ Defrag → table ≡ moved c.table c.cursor (next_move c.table c.cursor) → cursor ≡ next_place c.cursor (flagged_page c.table c.cursor)

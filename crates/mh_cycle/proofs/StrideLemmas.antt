@@ -9,7 +9,7 @@ use Rattle.mh_laws.specs.Snapshots.{CollectorsStaySteady}
 use Rattle.mh_laws.proofs.marking.BatchSteps.{with_units-twice}
 use Rattle.mh_laws.proofs.costs.Quanta.{steps-stop, steps-go, steps-enough, step_cost-positive}
 use Rattle.mh_cycle.specs.State.{CycleState, state_with_collector}
-use Rattle.mh_cycle.specs.Advance.{is_over, order, IsFrom, IsStride, IsStretch, IsMarkingTurn, IsAdvance, IsRest}
+use Rattle.mh_cycle.specs.Auxiliary.{is_over, order, IsFrom, IsStride, IsStretch, IsMarkingTurn, IsAdvance, IsRest}
 
 no-units : (s : Spending) → with_units 0 s ≡ s
 no-units s = ap (λ u. record s { units = u }) (omega arith)
@@ -21,9 +21,7 @@ stride-none moved c left fits = let a : left - 0 ≡ left = omega arith in rw a 
 
 -- one stride after another
 pub stride-then : (a b : ℕ) (m1 m2 m3 : Bool) (c1 c2 c3 : Collector) → IsStride a m1 c1 m2 c2 → IsStride b m2 c2 m3 c3 → IsStride (a + b) m1 c1 m3 c3
-stride-then a b m1 m2 m3 c1 c2 c3 first second left fits =
-    let e : left - a - b ≡ left - (a + b) = omega arith in
-    first left (omega arith) ∙ ap (with_units a) (second (left - a) (omega arith)) ∙ with_units-twice a b (steps (left - a - b) (left - a - b) m3 c3) ∙ ap (λ n. with_units (a + b) (steps n n m3 c3)) e
+stride-then a b m1 m2 m3 c1 c2 c3 first second left fits = grind (arith, with_units-twice)
 
 -- a step is a stride
 pub stride-step : (moved : Bool) (c : Collector) → is_idle c.phase ≡ false → IsStride (step_cost c moved) moved c (moved || is_moving c) (collector_step c)
@@ -31,9 +29,7 @@ stride-step moved c runs left fits = go left fits
   where
     go : (n : ℕ) → step_cost c moved ≤ n → steps n n moved c ≡ with_units (step_cost c moved) (steps (n - step_cost c moved) (n - step_cost c moved) (moved || is_moving c) (collector_step c))
     go zero h = absurd (omega (arith, step_cost-positive c moved runs))
-    go (suc n) h =
-        let goes : (is_idle c.phase || nat_lt (suc n) (step_cost c moved)) ≡ false = rw runs (le-ltb (suc n) (step_cost c moved) h) in
-        steps-go n (suc n) moved c goes ∙ ap (with_units (step_cost c moved)) (steps-enough n (suc n - step_cost c moved) (suc n - step_cost c moved) (moved || is_moving c) (collector_step c) (omega (arith, step_cost-positive c moved runs)) (omega arith))
+    go (suc n) h = grind (arith, le-ltb, steps-go, steps-enough, step_cost-positive)
 
 -- the same by what the step costs, moves and leaves
 pub stride-one : (units : ℕ) (moved moves : Bool) (old new : Collector) → is_idle old.phase ≡ false → units ≡ step_cost old moved → moves ≡ (moved || is_moving old) → new ≡ collector_step old → IsStride units moved old moves new
@@ -115,10 +111,7 @@ pub over : (left cost : ℕ) (moved : Bool) (c : Collector) → cost ≡ step_co
 over left cost moved c price less = or_right (is_idle c.phase) (nat_lt left (step_cost c moved)) (rw (← price) (lt-ltb left cost less))
 
 pub over-nothing : (left : ℕ) (moved : Bool) (c : Collector) → left ≡ 0 → is_over left moved c ≡ true
-over-nothing left moved c none = elim (cases_Bool (is_idle c.phase)) [
-  | inl idle ↦ ap (λ b. b || nat_lt left (step_cost c moved)) idle
-  | inr runs ↦ over left (step_cost c moved) moved c refl (omega (arith, step_cost-positive c moved runs))
-]
+over-nothing left moved c none = grind (arith, cases_Bool, inl, inr, over, step_cost-positive)
 
 -- no step at all, if the next one doesn't fit
 pub steps-over : (n left : ℕ) (moved : Bool) (c : Collector) → is_over left moved c ≡ true → steps n left moved c ≡ record { units = 0; collector = c }
@@ -131,18 +124,7 @@ steps-over (suc n) left moved c stops = steps-stop n left moved c stops
 -- one stride more
 pub advance-on : (left units cost all : ℕ) (m1 m2 : Bool) (old mid new : CycleState) → IsAdvance left old units m1 mid → all ≡ units + cost → cost ≤ left - units → new.config ≡ mid.config → IsSteady new.collector → IsStride cost m1 mid.collector m2 new.collector
     → IsAdvance left old all m2 new
-advance-on left units cost all m1 m2 old mid new before sum fits config steady stride = record {
-  config = config ∙ before.config;
-  steady = steady;
-  fits = omega (arith, before.fits);
-  goes =
-      let e : left - units - cost ≡ left - all = omega arith in
-      before.goes
-      ∙ ap (with_units units) (stride (left - units) fits)
-      ∙ with_units-twice units cost (steps (left - units - cost) (left - units - cost) m2 new.collector)
-      ∙ ap (λ u. with_units u (steps (left - units - cost) (left - units - cost) m2 new.collector)) (sym sum)
-      ∙ ap (λ n. with_units all (steps n n m2 new.collector)) e;
-}
+advance-on left units cost all m1 m2 old mid new before sum fits config steady stride = grind (arith, with_units-twice)
 
 -- one step more
 pub advance-step : CollectorsStaySteady → (left units cost all : ℕ) (m1 m2 : Bool) (old mid new : CycleState) → IsAdvance left old units m1 mid → all ≡ units + cost → cost ≤ left - units
@@ -236,19 +218,11 @@ over-past left moved c other (inl is) = ap (λ b. b || nat_lt left (step_cost c 
 
 -- the end of a quantum
 pub advance-ends : (left units : ℕ) (moved : Bool) (old new : CycleState) → IsAdvance left old units moved new → is_over (left - units) moved new.collector ≡ true → IsRest left old units new
-advance-ends left units moved old new before stops = record {
-  config = before.config;
-  fits = before.fits;
-  all = before.goes ∙ ap (with_units units) (steps-over (left - units) (left - units) moved new.collector stops) ∙ ap (λ u. record { units = u; collector = new.collector }) (omega arith);
-}
+advance-ends left units moved old new before stops = grind (arith, steps-over)
 
 -- what is done first, and the rest
 advance-rest : (left units more : ℕ) (old mid new : CycleState) → IsAdvance left old units false mid → IsRest (left - units) mid more new → IsRest left old (units + more) new
-advance-rest left units more old mid new before rest = record {
-  config = rest.config ∙ before.config;
-  fits = omega (arith, before.fits, rest.fits);
-  all = before.goes ∙ ap (with_units units) rest.all;
-}
+advance-rest left units more old mid new before rest = grind arith
 
 -- what a quantum spent, and what it left
 pub record IsQuantum (old : CycleState) (units : ℕ) (new : CycleState) : Type 0 where

@@ -1,9 +1,9 @@
 -- The steps of the sweep in one page are one stride.
-use Rattle.std.proofs.Common.{◌≡◌, ℕ, zero, suc, ◌+◌, ◌*◌, ◌/◌, ◌<◌, ◌≤◌, ◌||◌, Bool, true, false, length, refl, sym, ap, ◌∙◌, subst, arith}
+use Rattle.std.proofs.Common.{◌≡◌, ℕ, zero, suc, ◌*◌, ◌/◌, ◌<◌, ◌≤◌, ◌||◌, Bool, true, false, length, refl, sym, ap, ◌∙◌, subst, arith}
 use Rattle.mh_model.specs.declared.cycle.Phase.TheVariants.{Sweep, Defrag}
 use Rattle.mh_model.specs.Collector.{Collector, with_phase, is_idle, is_moving, is_moving_in, collector_step}
 use Rattle.mh_sweep.specs.Swept.{Sweeping, swept_on, IsSweptTo}
-use Rattle.mh_cycle.specs.Advance.{IsStride, IsStretch}
+use Rattle.mh_cycle.specs.Auxiliary.{IsStride, IsStretch}
 use Rattle.mh_cycle.proofs.StepLemmas.{cost-is, sweep-past, sweep-stays}
 use Rattle.mh_cycle.proofs.StrideLemmas.{stride-then, stride-one, stride-many}
 
@@ -29,16 +29,11 @@ sweep-stride : (c last : Collector) (n : ℕ) (moved : Bool) → c.phase ≡ Swe
 sweep-stride c last n moved phase inside ends =
     let before : IsStride (n * 1) moved (run c 0) moved (run c n) = stride-many 1 moved (run c) n (λ k h. ap is_idle phase) (λ k h. cost-is (run c k) Sweep moved phase) (λ k h. sweep-still (run c k) moved phase) (λ k h. sym (sweep-stays (run c k) phase (inside (suc k) (omega arith)))) in
     let one : IsStride 1 moved (run c n) moved last = stride-one 1 moved moved (run c n) last (ap is_idle phase) (sym (cost-is (run c n) Sweep moved phase)) (sym (sweep-still (run c n) moved phase)) ends in
-    let e : suc n ≡ n * 1 + 1 = omega arith in
-    rw e (stride-then (n * 1) 1 moved moved moved c (run c n) last before one)
+    grind (arith, stride-then)
 
 sweep-run : (c last : Collector) (new : Sweeping) (count left : ℕ) → c.phase ≡ Sweep → IsSweptTo c.cycle (sweeping_of c) new count → count ≤ left → ((n : ℕ) → count ≡ suc n → last ≡ collector_step (run c n)) → IsStretch left c count last
 sweep-run c last new zero left phase swept fits ends = absurd (omega (arith, swept.some))
-sweep-run c last new (suc n) left phase swept fits ends = record {
-  fits = fits;
-  goes = λ moved. sweep-stride c last n moved phase swept.inside (ends n refl);
-  dear = λ e. absurd (omega arith);
-}
+sweep-run c last new (suc n) left phase swept fits ends = grind (arith, sweep-stride)
 
 pub sweep-goes_past : (c : Collector) (new : Sweeping) (count left : ℕ) → c.phase ≡ Sweep → IsSweptTo c.cycle (sweeping_of c) new count → count ≤ left → length new.table ≤ new.place / 64 → IsStretch left c count (with_phase (with_sweep c new) Defrag 0)
 sweep-goes_past c new count left phase swept fits past = sweep-run c (with_phase (with_sweep c new) Defrag 0) new count left phase swept fits (λ n is. sym (ends n (swept.is ∙ ap (λ k. swept_on c.cycle k (sweeping_of c)) is)))

@@ -4,10 +4,10 @@ use Rattle.mh_model.specs.{declared.cycle.Phase.Phase, declared.cycle.Phase.TheV
 use Rattle.mh_model.specs.declared.deed.Deed.{Deed}
 use Rattle.mh_model.specs.Collector.{Collector, is_idle, is_moving, is_past, next_move, next_place, flagged_page, step_cost, collector_step, quantum_start}
 use Rattle.mh_model.specs.Deeds.{deeds_in, enter_deeds, step_deeds, deeds_of_steps, start_deeds, quantum_deeds}
-use Rattle.mh_deeds.specs.Logs.{Told, Leads}
+use Rattle.mh_deeds.specs.{Logs.Told, Auxiliary.Leads}
 use Rattle.mh_deeds.proofs.ToldLemmas.{told-then}
 use Rattle.mh_defrag.specs.Moves.{moved}
-use Rattle.mh_cycle.specs.State.{CycleState, state_with_collector, with_slots}
+use Rattle.mh_cycle.specs.{State.{CycleState, state_with_collector}, Auxiliary.with_slots}
 use Rattle.mh_cycle.proofs.DeedLemmas.{deeds-next}
 use Rattle.mh_cycle.proofs.StepLemmas.{defrag-is, defrag-parts, defrag_next, shifted, slots_moved}
 use Rattle.mh_cycle.proofs.ToldLemmas.{quantum-deeds}
@@ -36,9 +36,7 @@ module _ {Log : Type 0} (has : List Deed → Log → Type 0) where
   -- some steps more
   pub leads-then : (left spent cost : ℕ) (moved moves : Bool) (now new : Collector) (all : List Deed) (start log after : Log) → Leads has start all log (deeds_of_steps (left - spent) (left - spent) moved now)
       → Leads has log (deeds_of_steps (left - spent) (left - spent) moved now) after (deeds_of_steps (left - spent - cost) (left - spent - cost) moves new) → Leads has start all after (deeds_of_steps (left - (spent + cost)) (left - (spent + cost)) moves new)
-  leads-then left spent cost moved moves now new all start log after so_far more end rest =
-      let less : left - spent - cost ≡ left - (spent + cost) = omega arith in
-      so_far end (more end (subst (λ n. Told has after (deeds_of_steps n n moves new) end) (sym less) rest))
+  leads-then left spent cost moved moves now new all start log after so_far more end rest = grind arith
 
   -- one step more
   pub leads-step : (left spent cost : ℕ) (moved moves : Bool) (now new : Collector) (all : List Deed) (start log after : Log) → Leads has start all log (deeds_of_steps (left - spent) (left - spent) moved now)

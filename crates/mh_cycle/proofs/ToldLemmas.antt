@@ -1,5 +1,5 @@
 -- Deeds added step by step, and the quantum that the steps make up.
-use Rattle.std.proofs.Common.{◌≡◌, ℕ, ◌+◌, ◌/◌, ◌<◌, ◌≤◌, ◌==◌, ◌≢◌, Bool, true, false, nat_lt, if◌then◌else◌, List, [], ◌∷◌, ◌++◌, length, Option, None, get_or, refl, sym, ap, ◌∙◌, subst, arith}
+use Rattle.std.proofs.Common.{◌≡◌, ℕ, ◌+◌, ◌/◌, ◌<◌, ◌≤◌, ◌==◌, ◌≢◌, Bool, true, false, nat_lt, if◌then◌else◌, List, [], ◌∷◌, ◌++◌, length, Option, None, get_or, refl, sym, ap, ◌∙◌, arith}
 use Rattle.mh_model.specs.{declared.config.Config.Config, declared.cycle.Phase.TheVariants.{Roots, Sweep, Defrag}}
 use Rattle.mh_model.specs.{Pages.{Table, page_number, page_at}, Table.{Block, target_of}}
 use Rattle.mh_model.specs.Collector.{Collector, after_mark, next_place, roots_step, sweep_step, swept_table, with_phase, is_idle, cycle_start, with_count, is_start_due, collector_step, quantum_start}
@@ -34,15 +34,11 @@ sweep-as c table cursor a b = rw (a, b) refl
 
 pub sweep-ends : (c : Collector) (table : Table Block) (cursor : ℕ) → c.phase ≡ Sweep → table ≡ swept_table c.cycle c.table c.cursor → cursor ≡ next_place c.cursor (page_at c.table (page_number c.cursor))
     → length table ≤ cursor / 64 → with_phase (record c { table = table; cursor = cursor }) Defrag 0 ≡ collector_step c
-sweep-ends c table cursor phase a b past =
-    let is = sweep-as c table cursor a b in
-    ap (λ r. with_phase r Defrag 0) is ∙ sym (sweep-past c phase (subst (λ (r : Collector). length r.table ≤ r.cursor / 64) is past))
+sweep-ends c table cursor phase a b past = grind (arith, sweep-as, sweep-past)
 
 pub sweep-goes : (c : Collector) (table : Table Block) (cursor : ℕ) → c.phase ≡ Sweep → table ≡ swept_table c.cycle c.table c.cursor → cursor ≡ next_place c.cursor (page_at c.table (page_number c.cursor))
     → cursor / 64 < length table → record c { table = table; cursor = cursor } ≡ collector_step c
-sweep-goes c table cursor phase a b inside =
-    let is = sweep-as c table cursor a b in
-    is ∙ sym (sweep-stays c phase (subst (λ (r : Collector). r.cursor / 64 < length r.table) is inside))
+sweep-goes c table cursor phase a b inside = grind (arith, sweep-as, sweep-stays)
 
 -- The start ----------------------------------------------------------------------------------------
 

@@ -1,3 +1,3 @@
 pub mod State
-pub mod Advance
 pub mod Snapshots
+pub mod Auxiliary

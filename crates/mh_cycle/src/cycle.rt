@@ -75,7 +75,7 @@ pub struct Cycle {
 }
 
 impl Model for Cycle {
-    ghost use Rattle.mh_cycle.specs.State.{CycleState, IsFramed};
+    ghost use Rattle.mh_cycle.specs.{State.CycleState, Auxiliary.IsFramed};
 
     ghost Value = { CycleState };
 

@@ -5,9 +5,8 @@ ghost use Rattle.std.specs.Prelude.{◌≡◌, ◌-◌, false};
 ghost use Rattle.mh_model.specs.{declared.cycle.Phase.TheVariants.{Mark, Sweep, Defrag}, Deeds.deeds_of_steps};
 ghost use Rattle.mh_model.specs.Invariant.{IsSteady};
 ghost use Rattle.mh_roots.specs.Roots.{SlotsLead};
-ghost use Rattle.mh_cycle.specs.State.{with_forwarded, forwarded_state};
-ghost use Rattle.mh_cycle.specs.Advance.{IsFrom, IsMarkingTurn, IsAdvance, IsRest};
-ghost use Rattle.mh_deeds.specs.Logs.{Told, Leads};
+ghost use Rattle.mh_cycle.specs.Auxiliary.{with_forwarded, forwarded_state, IsFrom, IsMarkingTurn, IsAdvance, IsRest};
+ghost use Rattle.mh_deeds.specs.{Logs.Told, Auxiliary.Leads};
 
 use crate::cycle::Cycle;
 use crate::told::tell_phase;

@@ -4,11 +4,11 @@ ghost use Rattle.mh_model.specs.declared.cycle.Phase.TheVariants.{Roots, Mark, S
 ghost use Rattle.mh_model.specs.Collector.{is_idle, quantum_start, collector_step, step_cost};
 ghost use Rattle.mh_model.specs.Deeds.{deeds_in, step_deeds, deeds_of_steps, start_deeds};
 ghost use Rattle.mh_model.specs.{Mutator.{in_roots, in_roots_or_mark}, Invariant.IsSteady};
-ghost use Rattle.mh_deeds.specs.Logs.{Told, Leads};
+ghost use Rattle.mh_deeds.specs.{Logs.Told, Auxiliary.Leads};
 ghost use Rattle.mh_mark.specs.First.{IsFirstGrey};
 ghost use Rattle.mh_defrag.specs.Moves.{IsTarget, AreStill};
-ghost use Rattle.mh_cycle.specs.State.{state_with_collector, with_slots, step_beside_slots};
-ghost use Rattle.mh_cycle.specs.Advance.{IsStretch, IsStride};
+ghost use Rattle.mh_cycle.specs.State.{state_with_collector};
+ghost use Rattle.mh_cycle.specs.Auxiliary.{with_slots, step_beside_slots, IsStretch, IsStride};
 
 use crate::cycle::Cycle;
 use crate::told::{sweep_told, target_of, tell_phase, tell_slot};

@@ -1,7 +1,7 @@
 -- Deeds told to any log, one after the other.
 use Rattle.std.proofs.Common.{◌≡◌, List, [], ◌++◌, sym, subst, append_assoc, append-nil}
 use Rattle.mh_model.specs.declared.deed.Deed.{Deed}
-use Rattle.mh_deeds.specs.Logs.{Told, Leads}
+use Rattle.mh_deeds.specs.{Logs.Told, Auxiliary.Leads}
 
 module _ {Log : Type 0} (has : List Deed → Log → Type 0) where
   pub told-none : (log : Log) → Told has log [] log

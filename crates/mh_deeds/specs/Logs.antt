@@ -9,7 +9,3 @@ Has deeds log = log.is_whole ≡ true → log.deeds ≡ deeds
 -- these deeds were told to a log after those that it has, by a relation that says which it has
 abbrev pub Told : {Log : Type 0} → (List Deed → Log → Type 0) → Log → List Deed → Log → Type 0
 Told has old deeds new = (before : List Deed) → has before old → has (before ++ deeds) new
-
--- some deeds were told from the first log to the second: who adds the rest from there has all of them from the first
-abbrev pub Leads : {Log : Type 0} → (List Deed → Log → Type 0) → Log → List Deed → Log → List Deed → Type 0
-Leads has old all now rest = (end : _) → Told has now rest end → Told has old all end

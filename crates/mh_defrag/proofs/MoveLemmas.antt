@@ -1,8 +1,8 @@
 -- The next move, and what it leaves.
-use Rattle.std.proofs.Common.{◌≡◌, ◌⊎◌, ℕ, inl, inr, Bool, true, false, if◌then◌else◌, Option, Some, None, option_map, option_and_then, is_some, IsSome, refl, sym, ap, ◌∙◌, subst}
+use Rattle.std.proofs.Common.{arith, ◌≡◌, ◌⊎◌, ℕ, inl, inr, Bool, true, false, if◌then◌else◌, Option, Some, None, option_map, option_and_then, is_some, IsSome, refl, sym, ap, ◌∙◌, subst}
 use Rattle.std.proofs.{lemmas.Bool.cases_eq, lemmas.Option.{none-some, same_Some}}
 use Rattle.std.specs.Prelude.{IfSome}
-use Rattle.mh_model.specs.Pages.{Page, Table, page_number, slot_number, page_at, block_in, block_at, class_at, least_dense_place, with_taken, IsFreeFor}
+use Rattle.mh_model.specs.Pages.{Page, Table, page_number, slot_number, page_at, block_in, block_at, class_at, least_dense_place, IsFreeFor}
 use Rattle.mh_model.specs.{Table.{Block, is_forwarder}, Collector.{Move, if_flagged, move_of, next_move, moved_table}}
 use Rattle.mh_table_laws.proofs.placing.Places.{block_at-with_block_there, block_at-with_block_other, block_at-with_taken_there}
 use Rattle.mh_defrag.specs.Moves.{IsTarget, moved}
@@ -77,9 +77,7 @@ target-free table place target of =
 
 -- a block at another place stays
 elsewhere : (table : Table Block) (place : ℕ) (move : Move) (q : ℕ) → IsFreeFor table move.class_size move.target → IsSome (block_at table q) → (q ≡ place → ⊥) → block_at (moved_table table place move) q ≡ block_at table q
-elsewhere table place move q free there apart =
-    block_at-with_block_other (with_taken table move.class_size move.target move.block) place q (Some (record (move.block) { forward = Some move.target })) apart
-    ∙ block_at-with_taken_there table move.class_size move.target q move.block free there
+elsewhere table place move q free there apart = grind (arith, block_at-with_block_other, block_at-with_taken_there, there)
 
 pub stays-elsewhere : (table : Table Block) (place : ℕ) (target : Option ℕ) (q : ℕ) → IsTarget table place target → IsSome (block_at table q) → (q ≡ place → ⊥) → block_at (moved table place (next_move table place)) q ≡ block_at table q
 stays-elsewhere table place None q of there apart = ap (λ next. block_at (moved table place next) q) (none-moves table place of)
@@ -95,8 +93,5 @@ still-there table place (Some target) q of there =
     subst (λ next. IsSome (block_at (moved table place next) q)) (sym m.next) (by_place move m free (cases_eq q place))
   where
     by_place : (move : Move) → IsMove table place target move → IsFreeFor table move.class_size move.target → (q ≡ place) ⊎ (q ≡ place → ⊥) → IsSome (block_at (moved_table table place move) q)
-    by_place move m free (inl same) =
-        let was : IsSome (block_at table place) = ap is_some m.there in
-        let kept : IsSome (block_at (with_taken table move.class_size move.target move.block) place) = ap is_some (block_at-with_taken_there table move.class_size move.target place move.block free was) ∙ was in
-        rw same (ap is_some (block_at-with_block_there (with_taken table move.class_size move.target move.block) place (Some (record (move.block) { forward = Some move.target })) kept))
+    by_place move m free (inl same) = grind (arith, block_at-with_taken_there, block_at-with_block_there)
     by_place move m free (inr apart) = ap is_some (elsewhere table place move q free there apart) ∙ there

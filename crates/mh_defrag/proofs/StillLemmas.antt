@@ -7,7 +7,7 @@ use Rattle.mh_model.specs.Classes.{slots_in}
 use Rattle.mh_model.specs.Pages.{Page, Table, page_number, slot_number, page_at, block_in, block_at, class_at, flag_at, HaveTheirSlots}
 use Rattle.mh_model.specs.{Table.Block, Collector.{if_flagged, move_of, next_move, next_page, next_place, flagged_page}}
 use Rattle.mh_bits.specs.Bits.{has_bit}
-use Rattle.mh_defrag.specs.Moves.{AreUnflagged, AreStill, place_after}
+use Rattle.mh_defrag.specs.{Auxiliary.AreUnflagged, Moves.{AreStill, place_after}}
 
 -- Pages that are passed ----------------------------------------------------------------------------
 
@@ -34,20 +34,11 @@ pages-after : (table : Table Block) (place n : ℕ) → AreUnflagged table (plac
 pages-after table place n unflagged zero few = refl
 pages-after table place n unflagged (suc k) few =
     let before = pages-after table place n unflagged k (omega arith) in
-    let page = page-after place k in
-    let flag : flag_at table (start_after place k / 64) ≡ false = ap (flag_at table) page ∙ unflagged k (omega arith) in
-    let e : 64 * (start_after place k / 64 + 1) ≡ 64 * (place / 64 + suc k) = omega (arith, page) in
-    ap (λ p. next_place p (flagged_page table p)) before ∙ (ap (next_place (start_after place k)) (unflagged-none table (start_after place k) flag) ∙ e)
+    grind (arith, page-after, unflagged-none)
 
 pub pages-still : (table : Table Block) (place count : ℕ) → AreUnflagged table (place / 64) count → count ≢ 0 → place / 64 + count ≤ length table → AreStill table place count (64 * (place / 64 + count))
 pages-still table place zero unflagged some inside = absurd (some refl)
-pages-still table place (suc n) unflagged some inside = record {
-  leads = sym (pages-after table place (suc n) unflagged (suc n) (omega arith));
-  inside = λ k below. let after = pages-after table place (suc n) unflagged k (omega arith) in let page = page-after place k in omega (arith, ap (λ p. p / 64) after, page);
-  stay = λ k below.
-      let page = page-after place k in
-      ap (next_move table) (pages-after table place (suc n) unflagged k (omega arith)) ∙ unflagged-stays table (start_after place k) (ap (flag_at table) page ∙ unflagged k below);
-}
+pages-still table place (suc n) unflagged some inside = grind (arith, pages-after, page-after, unflagged-stays)
 
 -- Slots that are passed ----------------------------------------------------------------------------
 
@@ -113,31 +104,17 @@ slots-after : (table : Table Block) (place size : ℕ) (page : Page Block) → I
 slots-after table place size page is few zero below = omega arith
 slots-after table place size page is few (suc k) below =
     let before = slots-after table place size page is few k (omega arith) in
-    let slot : (place + k) % 64 ≡ place % 64 + k = omega arith in
-    let e : place + k + 1 ≡ place + suc k = omega arith in
-    ap (λ p. next_place p (flagged_page table p)) before ∙ (slot-after table (place + k) size page (same-page table place k size page is (omega arith)) (λ last. omega (arith, slot)) ∙ e)
+    grind (arith, slot-after, same-page)
 
 slots-still : (table : Table Block) (place size count next : ℕ) (page : Page Block) → IsFlagged table (place / 64) size page → slots_in size ≤ 64 → place / 64 < length table → place % 64 + count ≤ slots_in size → ((k : ℕ) → k < count → next_move table (place + k) ≡ None)
     → next ≡ place_after table place count → AreStill table place count next
-slots-still table place size count next page is few inside within stay leads = record {
-  leads = leads;
-  inside = λ k below. let after = slots-after table place size page is few k (omega arith) in omega (arith, ap (λ p. p / 64) after);
-  stay = λ k below. ap (next_move table) (slots-after table place size page is few k (omega arith)) ∙ stay k below;
-}
+slots-still table place size count next page is few inside within stay leads = grind (arith, slots-after)
 
 pub slots-go : (table : Table Block) (place size count : ℕ) → HaveTheirSlots table → class_at table (place / 64) ≡ Some size → flag_at table (place / 64) ≡ true → slots_in size ≤ 64 → place / 64 < length table → place % 64 + count < slots_in size
     → ((k : ℕ) → k < count → next_move table (place + k) ≡ None) → AreStill table place count (place + count)
-slots-go table place size count all class flag few inside within stay =
-    let (page, is) = flagged-is table (place / 64) size all class flag in
-    slots-still table place size count (place + count) page is few inside (omega arith) stay (sym (slots-after table place size page is few count within))
+slots-go table place size count all class flag few inside within stay = grind (arith, flagged-is, flag, slots-still, slots-after)
 
 pub slots-end : (table : Table Block) (place size count : ℕ) → HaveTheirSlots table → class_at table (place / 64) ≡ Some size → flag_at table (place / 64) ≡ true → slots_in size ≤ 64 → place / 64 < length table → place % 64 < slots_in size → place % 64 + count ≡ slots_in size
     → ((k : ℕ) → k < count → next_move table (place + k) ≡ None) → AreStill table place count (64 * (place / 64 + 1))
 slots-end table place size zero all class flag few inside within last stay = absurd (omega arith)
-slots-end table place size (suc n) all class flag few inside within last stay =
-    let (page, is) = flagged-is table (place / 64) size all class flag in
-    let before = slots-after table place size page is few n (omega arith) in
-    let slot : (place + n) % 64 ≡ place % 64 + n = omega arith in
-    let e : 64 * ((place + n) / 64 + 1) ≡ 64 * (place / 64 + 1) = omega arith in
-    slots-still table place size (suc n) (64 * (place / 64 + 1)) page is few inside (omega arith) stay
-    (sym (ap (λ p. next_place p (flagged_page table p)) before ∙ (last-after table (place + n) size page (same-page table place n size page is (omega arith)) (omega (arith, slot)) ∙ e)))
+slots-end table place size (suc n) all class flag few inside within last stay = grind (arith, flagged-is, flag, slots-after, slots-still, last-after, same-page)

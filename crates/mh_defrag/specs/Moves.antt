@@ -1,6 +1,6 @@
 -- The parts of a step of defragmentation.
-use Rattle.std.specs.Prelude.{◌≡◌, ℕ, zero, suc, ◌+◌, ◌<◌, false, length, Option, Some, None, IfSome, option_map}
-use Rattle.mh_model.specs.{Pages.{Table, page_number, class_at, flag_at, IsFreeFor}, Table.Block}
+use Rattle.std.specs.Prelude.{◌≡◌, ℕ, zero, suc, ◌<◌, length, Option, Some, None, IfSome, option_map}
+use Rattle.mh_model.specs.{Pages.{Table, page_number, class_at, IsFreeFor}, Table.Block}
 use Rattle.mh_model.specs.Collector.{Move, next_move, next_place, flagged_page, moved_table}
 
 -- the place that the next move leads to, if there is one, which is free for the class of the page
@@ -12,10 +12,6 @@ pub record IsTarget (table : Table Block) (place : ℕ) (target : Option ℕ) : 
 abbrev pub moved : Table Block → ℕ → Option Move → Table Block
 moved table place None = table
 moved table place (Some move) = moved_table table place move
-
--- so many pages from one on are free or not flagged
-abbrev pub AreUnflagged : Table Block → ℕ → ℕ → Type 0
-AreUnflagged table first count = (k : ℕ) → k < count → flag_at table (first + k) ≡ false
 
 -- the place of the next step after so many steps from a place on that leave the table as it is
 abbrev pub place_after : Table Block → ℕ → ℕ → ℕ

@@ -8,7 +8,7 @@
 ghost use Rattle.std.specs.Prelude.{ℕ, ◌≡◌, ◌+◌, ◌<◌, ◌≤◌, true, None, Some, length};
 ghost use Rattle.mh_model.specs.Pages.{page_number, slot_number, class_at, flag_at};
 ghost use Rattle.mh_model.specs.Collector.{next_move, move_cost, next_place, flagged_page};
-ghost use Rattle.mh_defrag.specs.Moves.{IsTarget, moved, AreUnflagged, AreStill};
+ghost use Rattle.mh_defrag.specs.{Moves.{IsTarget, moved, AreStill}, Auxiliary.AreUnflagged};
 
 use mh_blocks::blocks::Blocks;
 use mh_classes::class::Class;

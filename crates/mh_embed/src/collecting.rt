@@ -3,7 +3,7 @@
 ghost use Rattle.std.specs.Prelude.{◌≡◌, ◌<◌, ◌≤◌, true, is_some, Some, None, List, IfOk, MatchOption, OnOk, OnErr, IsErrOf, length, slice_get};
 ghost use Rattle.mh_model.specs.Limits.{most_events};
 ghost use Rattle.mh_machine.specs.{Running.{Does, MayAskForMemory}, declared.machine.Stop.Stop};
-ghost use Rattle.mh_embed.specs.{Drivers.{AreKept, first_collected}, Kept.IsCounted, Numbers.units_between};
+ghost use Rattle.mh_embed.specs.{Drivers.{AreKept, first_collected}, Auxiliary.IsCounted, Numbers.units_between};
 ghost use Rattle.mh_model.specs.declared.deed.Deed as deeds;
 ghost use Rattle.mh_model.specs.declared.command.Control.TheVariants as controls;
 ghost use Rattle.mh_model.specs.Machine as model;
@@ -36,7 +36,7 @@ pub struct CollectingMachine {
 }
 
 impl Model for CollectingMachine {
-    ghost use Rattle.mh_embed.specs.{Drivers.Collected, Kept.deeds_in};
+    ghost use Rattle.mh_embed.specs.{Drivers.Collected, Auxiliary.deeds_in};
 
     ghost Value = { Collected };
 

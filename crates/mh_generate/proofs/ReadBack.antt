@@ -16,7 +16,7 @@ use Rattle.mh_text_laws.proofs.round_trips.ReplyRoundTrips.{command_of-words, co
 use Rattle.mh_text_laws.proofs.round_trips.WordRoundTrips.{all-decimals, are_free, are_words, decimal_word, is_free, is_word, joined_free, numbers-decimal, words-joined}
 use Rattle.mh_generate.proofs.PhraseLemmas.{fine_command, fine_control, phrase_are_words}
 use Rattle.mh_generate.proofs.NameLemmas.{first_names, number-first, session_name, with_name-first}
-use Rattle.mh_generate.specs.Scripts.{are_in_order, config_line, config_numbers, event_line, is_next, named_after, script_text}
+use Rattle.mh_generate.specs.Auxiliary.{are_in_order, config_line, config_numbers, event_line, is_next, named_after, script_text}
 
 -- Words ------------------------------------------------------------------------------------------
 

@@ -4,7 +4,7 @@ use Rattle.mh_model.specs.{declared.command.Command.Command, declared.history.Ve
 use Rattle.mh_model.specs.{Forms.{command_phrase, is_sayable}, HistoryTexts.is_event, declared.command.Control.Control}
 use Rattle.mh_model.specs.declared.command.Event.{Event}
 use Rattle.mh_orders.specs.declared.profile.Profile.{Profile, TheVariants.Churn}
-use Rattle.mh_generate.specs.{Asked.writes_its_number, Taken.IsSaid}
+use Rattle.mh_generate.specs.{Asked.writes_its_number, Auxiliary.IsSaid}
 use Rattle.mh_generate.proofs.TakenLemmas.{nothing}
 
 -- neither a quantum nor nothing writes a number

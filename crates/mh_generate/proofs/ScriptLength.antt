@@ -9,7 +9,7 @@ use Rattle.mh_model.specs.HistoryTexts.{is_event}
 use Rattle.mh_text_laws.proofs.round_trips.HeaderRoundTrips.{config_limits}
 use Rattle.mh_generate.proofs.NameLemmas.{session_name}
 use Rattle.mh_generate.proofs.PhraseLemmas.{fine_command, fine_control, numbers_length, phrase_length}
-use Rattle.mh_generate.specs.Scripts.{config_line, config_numbers, event_line, script_text}
+use Rattle.mh_generate.specs.Auxiliary.{config_line, config_numbers, event_line, script_text}
 
 -- a line of an event has 63 bytes at most
 event_length : (e : Event) → is_event Two e ≡ true → length (event_line e) ≤ 63

@@ -6,7 +6,8 @@ use Rattle.mh_model.specs.{declared.reply.Refusal.Refusal, declared.memory.NoMem
 use Rattle.mh_model.specs.World.{Answer, Object, Performs, World, effect, heap_step, names_same, never_full, refusal, says, sight_of, slot_at, unless_refused, with_change, world_step, yes_or_no}
 use Rattle.std.specs.Prelude.{Result, Ok, Err, IfOk, OnErr}
 use Rattle.mh_heap.specs.{PlainShown.plain_showing, Shown.Showing}
-use Rattle.mh_generate.specs.Taken.{are_taken, ends_first, is_first_here, is_refused, is_taken, world_then}
+use Rattle.mh_generate.specs.Taken.{are_taken, is_refused, is_taken, world_then}
+use Rattle.mh_generate.specs.Auxiliary.{ends_first, is_first_here}
 
 -- Refused commands -------------------------------------------------------------------------------
 

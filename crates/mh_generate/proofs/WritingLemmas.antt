@@ -17,8 +17,8 @@ use Rattle.mh_orders.specs.declared.{generate_options.Options.Options, profile.P
 use Rattle.mh_orders.specs.declared.profile.Profile.TheVariants.{Refusals, Mixed}
 use Rattle.mh_generate.specs.Asked.{all_numbered, is_command, is_quantum, is_timed, version_under, writes_its_number}
 use Rattle.mh_generate.specs.{Generated.{IsAsked, WritesAsked}, Profiles.{has_acts, named_by}}
-use Rattle.mh_generate.specs.Scripts.{are_in_order, config_line, event_line, is_below, is_next, named_after, named_after_all, script_text}
-use Rattle.mh_generate.specs.Taken.{are_taken, is_first_here, is_taken, world_then}
+use Rattle.mh_generate.specs.Auxiliary.{are_in_order, config_line, event_line, is_next, named_after, named_after_all, script_text, is_first_here}
+use Rattle.mh_generate.specs.{Scripts.is_below, Taken.{are_taken, is_taken, world_then}}
 use Rattle.mh_generate.proofs.{ReadBack.reading-script, SaidLemmas.writes-others, ScriptLength.script_length}
 use Rattle.mh_generate.proofs.TakenLemmas.{nothing, nothing_taken, nothing_unchanged, taken-append, world_after, world_after-append}
 

@@ -3,3 +3,4 @@ pub mod Profiles
 pub mod Asked
 pub mod Taken
 pub mod Generated
+pub mod Auxiliary

@@ -1,45 +1,8 @@
 -- Scripts as they are written: a configuration, and events whose sessions have their numbers as names, in the order of first use.
-use Rattle.std.specs.Prelude.{ℕ, suc, nat_lt, nat_le, Bool, true, ◌&&◌, ◌||◌, if◌then◌else◌, List, [], ◌∷◌, map, codes, decimal}
-use Rattle.mh_model.specs.{declared.config.Config.Config, declared.command.Event.Event}
-use Rattle.mh_model.specs.{Bytes.{Text, joined, lines_text}, HistoryTexts.event_words}
-
--- the numbers of a configuration
-abbrev pub config_numbers : Config → List ℕ
-config_numbers config = config.pages ∷ config.quantum ∷ config.trigger ∷ config.every ∷ []
-
--- `config PAGES QUANTUM TRIGGER EVERY`
-abbrev pub config_line : Config → Text
-config_line config = joined (codes "config" ∷ map decimal (config_numbers config))
-
--- `sN COMMAND` for a command of session N, or `* CONTROL`
-abbrev pub event_line : Event → Text
-event_line event = joined (event_words event)
-
--- a script with this configuration and these events
-abbrev pub script_text : Config → List Event → Text
-script_text config events = lines_text (config_line config ∷ map event_line events)
+use Rattle.std.specs.Prelude.{ℕ, nat_lt, Bool, true}
+use Rattle.mh_model.specs.declared.command.Event.{Event}
 
 -- Sessions ---------------------------------------------------------------------------------------
-
--- how many names were seen, eight at most, once an event more is
-abbrev pub named_after : ℕ → Event → ℕ
-named_after named (Event.Session who command) = if nat_lt who named || nat_le 8 named then named else suc named
-named_after named (Event.Control control) = named
-
--- the event's session is one that was seen, or the next
-abbrev pub is_next : ℕ → Event → Bool
-is_next named (Event.Session who command) = nat_le who named
-is_next named (Event.Control control) = true
-
--- each event's is, so that sessions are first named in the order of their numbers
-abbrev pub are_in_order : ℕ → List Event → Bool
-are_in_order named [] = true
-are_in_order named (event ∷ events) = is_next named event && are_in_order (named_after named event) events
-
--- how many names were seen after events in order
-abbrev pub named_after_all : ℕ → List Event → ℕ
-named_after_all named [] = named
-named_after_all named (event ∷ events) = named_after_all (named_after named event) events
 
 -- the event is no command, or one of a session below this number
 abbrev pub is_below : ℕ → Event → Bool

@@ -4,7 +4,8 @@ ghost use Rattle.std.specs.Prelude.{◌≡◌, ◌<◌, ◌≤◌, ◌+◌, true
 ghost use Rattle.mh_heap.specs.PlainHeap.{world_of};
 ghost use Rattle.mh_model.specs.{declared.birth.TheConstants.LIFE, Forms.{command_phrase, is_sayable}};
 ghost use Rattle.mh_model.specs.World.{births, first_world};
-ghost use Rattle.mh_generate.specs.Taken.{IsSaid, ends_first, is_first_here, is_refused, is_taken, world_then};
+ghost use Rattle.mh_generate.specs.Auxiliary.{IsSaid, ends_first, is_first_here};
+ghost use Rattle.mh_generate.specs.Taken.{is_refused, is_taken, world_then};
 ghost use Rattle.mh_model.specs.declared.command.Event.TheVariants as event;
 
 use mh_heap::perform::perform;

@@ -7,7 +7,8 @@ ghost use Rattle.mh_model.specs.{Configs.with_rules, Forms.{command_phrase, is_s
 ghost use Rattle.mh_model.specs.{World.{births, first_world}, declared.birth.TheConstants.LIFE};
 ghost use Rattle.mh_model.specs.declared.command.Command.{Command};
 ghost use Rattle.mh_generate.specs.{Asked.{is_timed, version_under, writes_its_number}, Profiles.{has_acts, named_by}};
-ghost use Rattle.mh_generate.specs.{Scripts.{is_below, is_next, named_after}, Taken.{IsSaid, is_taken, world_then}};
+ghost use Rattle.mh_generate.specs.{Scripts.is_below, Auxiliary.{is_next, named_after, IsSaid}};
+ghost use Rattle.mh_generate.specs.Taken.{is_taken, world_then};
 ghost use Rattle.mh_model.specs.declared.command.Event.TheVariants as event;
 
 use crate::along::HeapAlong;

@@ -1,7 +1,7 @@
 //! Lines of scripts as they are written. An event is written as in a history, so a session is named by its number.
 ghost use Rattle.std.specs.{Prelude.{◌≡◌, ◌++◌, ◌∷◌, OnOk, decimal, map}, String.string_bytes};
 ghost use Rattle.mh_model.specs.Bytes.{joined, line_text};
-ghost use Rattle.mh_generate.specs.Scripts.{config_line, event_line};
+ghost use Rattle.mh_generate.specs.Auxiliary.{config_line, event_line};
 
 use itoa::Buffer;
 use mh_history::measured_line::push_event;

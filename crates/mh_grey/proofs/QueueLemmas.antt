@@ -4,7 +4,7 @@ use Rattle.std.proofs.{lemmas.Bool.{false≢true, eqb-true, or_right, or_cases},
 use Rattle.std.proofs.{lemmas.List.length_push, lemmas.Map.Steps.length-le_from_distinct_below}
 use Rattle.std.proofs.lemmas.Map.Keys.{IsDistinct-push, IsDistinct-tail}
 use Rattle.std.specs.{List.IsDistinct, Prelude.{Result, Ok, Err, IsOk, OnOk, ◌↔◌}}
-use Rattle.mh_grey.specs.Queue.{is_in, IsQueue}
+use Rattle.mh_grey.specs.{Queue.is_in, Auxiliary.IsQueue}
 
 -- a place of a longer list was in it or is the new one
 pub in-push : (places : List ℕ) (place other : ℕ) → is_in other (places ++ place ∷ []) ≡ true → (is_in other places ≡ true) ⊎ (other ≡ place)

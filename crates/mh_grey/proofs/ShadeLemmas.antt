@@ -1,5 +1,5 @@
 -- Shading by cases.
-use Rattle.std.proofs.Common.{◌≡◌, ◌≢◌, ℕ, ◌⊎◌, Bool, true, false, inl, inr, List, [], ◌∷◌, ◌++◌, Option, Some, None, option_map, unwrap_or, IsSome, refl, eq-eqb}
+use Rattle.std.proofs.Common.{arith, ◌≡◌, ◌≢◌, ℕ, ◌⊎◌, Bool, true, false, inl, inr, List, [], ◌∷◌, ◌++◌, Option, Some, None, option_map, unwrap_or, IsSome, refl, eq-eqb}
 use Rattle.std.proofs.lemmas.Bool.{cases_eq, false≢true, ne_eqb}
 use Rattle.mh_model.specs.{Pages.{Table, block_at}, Table.{Block, resolve, stamp_at, with_stamp_at, LeadsOn}}
 use Rattle.mh_model.specs.Collector.{Marking, shade_block, shade_place, shade}
@@ -51,7 +51,4 @@ place-cases m place there = elim (cases_eq (stamp_at m.table place) m.cycle) [
 
 pub shade-cases : (m : Marking) (reference : Option ℕ) → LeadsOn m.table reference → (shade m reference ≡ m) ⊎ ((place : ℕ) × IsStamped m (shade m reference) place)
 shade-cases m None leads = inl refl
-shade-cases m (Some reference) leads = elim (place-cases m (resolve m.table reference) leads.1) [
-  | inl same ↦ inl same
-  | inr new ↦ inr (resolve m.table reference, new)
-]
+shade-cases m (Some reference) leads = grind (arith, place-cases, inl, inr)

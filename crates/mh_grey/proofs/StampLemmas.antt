@@ -1,5 +1,5 @@
 -- What shading keeps.
-use Rattle.std.proofs.Common.{◌≡◌, ℕ, inl, inr, [], ◌∷◌, ◌++◌, length, set, Option, Some, None, option_map, option_and_then, unwrap_or, is_some, IsSome, refl, sym, ap, ◌∙◌, subst}
+use Rattle.std.proofs.Common.{arith, ◌≡◌, ℕ, inl, inr, [], ◌∷◌, ◌++◌, length, set, Option, Some, None, option_map, option_and_then, unwrap_or, is_some, IsSome, refl, sym, ap, ◌∙◌, subst}
 use Rattle.std.proofs.{lemmas.Bool.{cases_eq, false≢true}, lemmas.List.length-set}
 use Rattle.mh_model.specs.Pages.{Table, page_number, slot_number, page_at, block_at, page_with, with_block}
 use Rattle.mh_model.specs.Table.{Block, resolve, references_at, with_reference_at, stamp_at, with_stamp_at, forward_at, LeadsOn, LeadsHome}
@@ -66,9 +66,7 @@ like-stamp table place stamp =
 -- and lead home
 pub home-like : (table new : Table Block) (reference : Option ℕ) → IsLike table new → LeadsHome table reference → LeadsHome new reference
 home-like table new None like home = tt
-home-like table new (Some place) like home =
-    let same : resolve new place ≡ resolve table place = ap (λ o. unwrap_or o place) (like.forwards place) in
-    rw same (like.there (resolve table place) ∙ home.0, like.forwards (resolve table place) ∙ home.1)
+home-like table new (Some place) like home = grind arith
 
 -- Shading ----------------------------------------------------------------------------------------
 

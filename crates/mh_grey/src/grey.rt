@@ -30,7 +30,7 @@ pub struct Grey {
 }
 
 impl Model for Grey {
-    ghost use Rattle.mh_grey.specs.Queue.{Queue, IsQueue};
+    ghost use Rattle.mh_grey.specs.{Queue.Queue, Auxiliary.IsQueue};
 
     ghost Value = { Queue };
 

@@ -1,12 +1,12 @@
 -- The parts of an object: which have children, and if these stand.
-use Rattle.std.proofs.Common.{◌≡◌, ℕ, zero, suc, ◌+◌, ◌-◌, ◌*◌, ◌<◌, ◌≤◌, ◌⊎◌, nat_le, nat_lt, inl, inr, List, length, slice_get, Some, None, refl, sym, ap, ◌∙◌, subst, arith}
+use Rattle.std.proofs.Common.{◌≡◌, ℕ, zero, suc, ◌+◌, ◌-◌, ◌*◌, ◌<◌, ◌≤◌, ◌⊎◌, nat_le, nat_lt, inl, inr, List, length, slice_get, Some, None, refl, sym, ◌∙◌, subst, arith}
 use Rattle.std.proofs.lemmas.Bool.{cases_Bool, leb-true, leb-false, ltb-true, ltb-false}
 use Rattle.std.proofs.lemmas.Option.{none-some, same_Some, slice_get_within}
 use Rattle.mh_model.specs.Classes.{Part, parts, run_count, middle_count}
 use Rattle.mh_table_laws.proofs.objects.Parts.{counts, length-parts, middle_at}
 use Rattle.mh_classes.proofs.PartLemmas.{small_at, first_at, arraylet_at}
 use Rattle.mh_classes.specs.Fits.{AreParts}
-use Rattle.mh_groups.specs.Making.{HaveTheirChildren}
+use Rattle.mh_groups.specs.Auxiliary.{HaveTheirChildren}
 
 -- a part is a spine whose children are among the parts, or it has no children and stands after every spine
 pub record HasChildren (r n index : ℕ) (part : Part) : Type 0 where
@@ -26,9 +26,7 @@ part_at r n index part at = elim (cases_Bool (nat_le (r + n) 60)) [
 ]
   where
     large : (i : ℕ) → slice_get (parts r n) i ≡ Some part → 60 < r + n → HasChildren r n i part
-    large zero e many =
-        let all = length-parts r n many in
-        spine r n zero part _ 1 e (first_at r n many) refl (elim (counts (r + n)).case [ inl k ↦ let (small, none, runs) = k in omega (arith, all, none, runs) | inr k ↦ let (large, some, runs) = k in omega (arith, all, some, runs) ]) many (omega arith)
+    large zero e many = grind (arith, length-parts, spine, first_at, counts, inl, inr)
     large (suc i) e many = elim (cases_Bool (nat_lt i (middle_count (r + n)))) [
       | inl below ↦
           let inside : i < middle_count (r + n) = ltb-true i (middle_count (r + n)) below in
@@ -45,26 +43,14 @@ pub parts-have_children : (r n : ℕ) → HaveTheirChildren (parts r n)
 parts-have_children r n = record { within = within; last = last }
   where
     within : (index : ℕ) (part : Part) (child : ℕ) → slice_get (parts r n) index ≡ Some part → part.children ≡ Some child → child + part.references ≤ length (parts r n)
-    within index part child at is = elim (part_at r n index part at).case [
-      | inl k ↦ let same : k.0 ≡ child = same_Some k.0 child (sym k.1 ∙ is) in omega (arith, k.2)
-      | inr k ↦ absurd (none-some child (sym k.0 ∙ is))
-    ]
+    within index part child at is = grind (arith, part_at, inl, same_Some, inr, none-some)
 
     last : (index later : ℕ) (part other : Part) → index ≤ later → slice_get (parts r n) index ≡ Some part → part.children ≡ None → slice_get (parts r n) later ≡ Some other → other.children ≡ None
-    last index later part other before at none at' = elim (part_at r n later other at').case [
-      | inr k ↦ k.0
-      | inl k ↦ elim (part_at r n index part at).case [
-        | inl j ↦ absurd (none-some j.0 (sym none ∙ j.1))
-        | inr j ↦ absurd (omega (arith, j.1 k.3, k.4))
-      ]
-    ]
+    last index later part other before at none at' = grind (arith, part_at, inr, inl, none-some)
 
 pub have_children : (list : List Part) → AreParts list → HaveTheirChildren list
 have_children list are = subst HaveTheirChildren (sym are.3) (parts-have_children are.0 are.1)
 
 -- an only part has no children
 pub only_part : (list : List Part) (part : Part) → AreParts list → length list ≡ 1 → slice_get list 0 ≡ Some part → part.children ≡ None
-only_part list part are one at = elim (part_at are.0 are.1 0 part (sym (ap (λ ps. slice_get ps 0) are.3) ∙ at)).case [
-  | inr k ↦ k.0
-  | inl k ↦ let same : length list ≡ length (parts are.0 are.1) = ap length are.3 in let all = length-parts are.0 are.1 k.3 in absurd (omega (arith, all, k.3))
-]
+only_part list part are one at = grind (arith, part_at, inr, inl, length-parts)

@@ -1,10 +1,10 @@
 -- How many parts of an object are full: one for each 60 fields.
-use Rattle.std.proofs.Common.{◌≡◌, ℕ, zero, suc, ◌+◌, ◌/◌, ◌≤◌, nat_le, nat_lt, cond, if◌then◌else◌, Bool, true, false, inl, inr, List, [], ◌∷◌, Some, slice_get, refl, sym, ap, ◌∙◌, arith, eq-eqb}
+use Rattle.std.proofs.Common.{◌≡◌, ℕ, zero, suc, ◌+◌, ◌/◌, ◌≤◌, nat_lt, cond, Bool, true, false, inl, inr, List, [], ◌∷◌, Some, slice_get, refl, ap, ◌∙◌, arith, eq-eqb}
 use Rattle.std.proofs.lemmas.Bool.{cases_eq, cases_lt, cases_Bool, leb-true, leb-false, lt-ltb, le-ltb, ne_eqb}
 use Rattle.std.proofs.{lemmas.List.Sums.{sum_by-cons, sum_by-append}, lemmas.Option.{same_Some, slice_get_within}}
 use Rattle.mh_model.specs.Classes.{Part, tabulate, run_count, middle_count, middle_spine, arraylet, plain_part, spine_parts, parts}
 use Rattle.mh_classes.proofs.PartLemmas.{small_at, first_at}
-use Rattle.mh_groups.specs.Room.{is_full, full_count}
+use Rattle.mh_groups.specs.Auxiliary.{is_full, full_count}
 
 -- One part ---------------------------------------------------------------------------------------
 
@@ -43,16 +43,10 @@ full_before f first (suc n) end full from to = elim (cases_lt first end) [
 -- The parts of an object -------------------------------------------------------------------------
 
 arraylet_full : (r n run : ℕ) → is_full (arraylet r n run) ≡ nat_lt run ((r + n) / 60)
-arraylet_full r n run = elim (cases_lt run ((r + n) / 60)) [
-  | inl below ↦ eq-eqb _ _ (omega arith) ∙ sym (lt-ltb run ((r + n) / 60) below)
-  | inr past ↦ ne_eqb _ _ (λ e. absurd (omega arith)) ∙ sym (le-ltb run ((r + n) / 60) past)
-]
+arraylet_full r n run = grind (arith, cases_lt, inl, eq-eqb, lt-ltb, inr, ne_eqb, le-ltb)
 
 plain_full : (r n : ℕ) → r + n ≤ 60 → full_count (plain_part r n ∷ []) ≡ (r + n) / 60
-plain_full r n few = elim (cases_eq (r + n) 60) [
-  | inl all ↦ let full : is_full (plain_part r n) ≡ true = eq-eqb _ _ (omega arith) in omega (arith, count_full (plain_part r n) [] full)
-  | inr apart ↦ let none : is_full (plain_part r n) ≡ false = ne_eqb _ _ (λ e. apart (omega arith)) in omega (arith, count_other (plain_part r n) [] none)
-]
+plain_full r n few = grind (arith, cases_eq, inl, eq-eqb, count_full, inr, ne_eqb, count_other)
 
 spines_full : (r n : ℕ) → full_count (spine_parts r n) ≡ (r + n) / 60
 spines_full r n =
@@ -62,16 +56,8 @@ spines_full r n =
     omega (arith, all, middles, arraylets)
 
 pub parts_full : (r n : ℕ) → full_count (parts r n) ≡ (r + n) / 60
-parts_full r n = elim (cases_Bool (nat_le (r + n) 60)) [
-  | inl few ↦ ap (λ b. full_count (if b then plain_part r n ∷ [] else spine_parts r n)) few ∙ plain_full r n (leb-true (r + n) 60 few)
-  | inr many ↦ ap (λ b. full_count (if b then plain_part r n ∷ [] else spine_parts r n)) many ∙ spines_full r n
-]
+parts_full r n = grind (arith, cases_Bool, inl, plain_full, leb-true, inr, spines_full)
 
 -- The header of the first part has the counts of the object
 pub first_header : (r n : ℕ) (part : Part) → Some part ≡ slice_get (parts r n) 0 → part.header ≡ record { references = r; numbers = n }
-first_header r n part at = elim (cases_Bool (nat_le (r + n) 60)) [
-  | inl few ↦
-      let small : r + n ≤ 60 = leb-true (r + n) 60 few in
-      ap (λ (p : Part). p.header) (same_Some _ _ (at ∙ small_at r n 0 small (slice_get_within (parts r n) 0 part (sym at))))
-  | inr many ↦ ap (λ (p : Part). p.header) (same_Some _ _ (at ∙ first_at r n (omega (arith, leb-false (r + n) 60 many))))
-]
+first_header r n part at = grind (arith, cases_Bool, inl, leb-true, same_Some, small_at, slice_get_within, inr, first_at, leb-false)

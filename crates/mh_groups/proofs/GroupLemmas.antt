@@ -1,11 +1,11 @@
 -- Objects of one part, and of many whose parts are made and linked.
-use Rattle.std.proofs.Common.{◌≡◌, ℕ, zero, suc, ◌<◌, ◌≤◌, ◌⊎◌, inl, inr, List, [], ◌∷◌, ◌++◌, length, get_or, set, take, slice_get, Option, Some, None, option_map, option_and_then, refl, sym, ap, ◌∙◌, subst, arith}
+use Rattle.std.proofs.Common.{◌≡◌, ℕ, zero, suc, ◌≤◌, ◌⊎◌, inl, inr, List, [], ◌∷◌, ◌++◌, length, get_or, set, take, slice_get, Option, Some, None, option_map, option_and_then, refl, sym, ap, ◌∙◌, subst, arith}
 use Rattle.std.proofs.lemmas.Option.{none-some, same_Some, slice_get_within}
 use Rattle.std.proofs.lemmas.List.{get_or-take, get_or_append_left}
 use Rattle.mh_model.specs.Classes.{Part, class_of, part_words}
-use Rattle.mh_model.specs.Pages.{Table, page_number, slot_number, page_at, block_in, block_at, least_place, page_with, page_for, with_block, with_taken}
+use Rattle.mh_model.specs.Pages.{Table, block_at, least_place, with_block, with_taken}
 use Rattle.mh_model.specs.Table.{Block, Made, MadeParts, new_block, made_in_class, made_part, with_block_change, linked_block, group_of, made_group, words_of}
-use Rattle.mh_groups.specs.Making.{AreUnlinked}
+use Rattle.mh_groups.specs.Auxiliary.{AreUnlinked}
 use Rattle.mh_groups.proofs.MadeLemmas.{made_parts-more, made_parts-none}
 use Rattle.mh_table_laws.proofs.placing.Places.{with_block-self}
 
@@ -17,13 +17,7 @@ set_read (y ∷ xs) zero x = inl refl
 set_read (y ∷ xs) (suc i) x = set_read xs i x
 
 taken_read : (table : Table Block) (size place : ℕ) (block : Block) → (block_at (with_taken table size place block) place ≡ Some block) ⊎ (block_at (with_taken table size place block) place ≡ None)
-taken_read table size place block = elim (set_read table (page_number place) (Some (page_with (slot_number place) (Some block) (page_for size (page_at table (page_number place)))))) [
-  | inl here ↦ elim (set_read (page_for size (page_at table (page_number place))).slots (slot_number place) (Some block)) [
-    | inl there ↦ inl (ap (option_and_then (block_in (slot_number place))) here ∙ there)
-    | inr past ↦ inr (ap (option_and_then (block_in (slot_number place))) here ∙ past)
-  ]
-  | inr past ↦ inr (ap (option_and_then (block_in (slot_number place))) past)
-]
+taken_read table size place block = grind (arith, set_read, inl, inr)
 
 -- One part ---------------------------------------------------------------------------------------
 
@@ -70,17 +64,10 @@ one_group table birth stamp (first ∷ []) part made at one none e =
 pub no_group : (table : Table Block) (birth stamp : ℕ) (list : List Part) (part : Part) → slice_get list 0 ≡ Some part → length list ≡ 1 → made_part table birth stamp 0 part ≡ None → made_group table birth stamp list ≡ None
 no_group table birth stamp [] part at one e = absurd (none-some part at)
 no_group table birth stamp (first ∷ second ∷ list) part at one e = absurd (omega arith)
-no_group table birth stamp (first ∷ []) part at one e =
-    ap (λ p. made_group table birth stamp (p ∷ [])) (same_Some first part at)
-    ∙ ap (option_and_then (λ (m : MadeParts). group_of m.table m.places (part ∷ []))) (made_parts-none table birth stamp 0 part [] e)
+no_group table birth stamp (first ∷ []) part at one e = grind (arith, same_Some, made_parts-none)
 
 -- Many parts -------------------------------------------------------------------------------------
 
 -- parts at the first of these places are at those in front of them
 pub unlinked-front : (table : Table Block) (places rest all : List ℕ) (list : List Part) (size count : ℕ) → all ≡ take size (places ++ rest) → length list ≤ size → length list ≤ count → length list ≤ length places → AreUnlinked table places list 0 → AreUnlinked table (take count all) list 0
-unlinked-front table places rest all list size count is many many' enough unlinked number part least at =
-    let below : number < length list = slice_get_within list number part at in
-    let one = unlinked number part least at in
-    let same : get_or (take count all) number 0 ≡ get_or places number 0 =
-    get_or-take count all number 0 (omega arith) ∙ ap (λ xs. get_or xs number 0) is ∙ get_or-take size (places ++ rest) number 0 (omega arith) ∙ get_or_append_left places rest 0 number (omega arith) in
-    record { block = one.block; there = ap (block_at table) same ∙ one.there; number_is = one.number_is; references = one.references }
+unlinked-front table places rest all list size count is many many' enough unlinked number part least at = grind (arith, slice_get_within, get_or-take, get_or_append_left)

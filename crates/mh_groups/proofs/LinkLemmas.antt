@@ -5,7 +5,7 @@ use Rattle.std.proofs.lemmas.Option.{same_Some, slice_get_within}
 use Rattle.std.proofs.lemmas.List.{length-take, length-drop, length-replicate}
 use Rattle.mh_model.specs.{Classes.Part, Pages.{Table, block_at, with_block}}
 use Rattle.mh_model.specs.Table.{Block, references_at, with_reference_at, with_block_change, words_of, linked_block, linked_parts}
-use Rattle.mh_groups.specs.Making.{HaveTheirChildren, IsUnlinked, AreUnlinked}
+use Rattle.mh_groups.specs.Auxiliary.{HaveTheirChildren, IsUnlinked, AreUnlinked}
 use Rattle.mh_table_laws.proofs.Lists.{from_some, to_some}
 use Rattle.mh_table_laws.proofs.placing.Places.{block_at-with_block_there, block_at-with_block_other, with_block-twice, with_block-self}
 use Rattle.mh_table_laws.proofs.objects.Parts.{slice_there}
@@ -22,10 +22,7 @@ module _ (table : Table Block) (place : ℕ) (block : Block) (there : block_at t
   changed_alike change other same = ap (with_block table place) (ap (option_map change) there ∙ ap Some same ∙ sym (ap (option_map other) there))
 
   pub changed_twice : (first second : Block → Block) → with_block_change (with_block_change table place first) place second ≡ with_block_change table place (λ b. second (first b))
-  changed_twice first second =
-      ap (with_block (with_block_change table place first) place) (ap (option_map second) (changed_here first))
-      ∙ with_block-twice table place (option_map first (block_at table place)) (Some (second (first block)))
-      ∙ ap (with_block table place) (sym (ap (option_map (λ b. second (first b))) there))
+  changed_twice first second = grind (arith, changed_here, with_block-twice)
 
   -- a change that changes nothing
   pub changed_nothing : (change : Block → Block) → change block ≡ block → with_block_change table place change ≡ table
@@ -86,9 +83,7 @@ module _ (old : Table Block) (place : ℕ) (children : List ℕ) (is : IsSome (b
   pub child_within : (table : Table Block) (count : ℕ) → HasSomeChildren old place children table count → count < length children → count < length (references_at table place)
   child_within table count so_far below =
       let at = changed_here old place block there (with_some_children children count) in
-      let size_now = length_linked count children block.references size in
-      let same : length (references_at table place) ≡ length children = ap (λ t. length (references_at t place)) so_far.is ∙ ap length (references-length _ place _ at) ∙ size_now in
-      omega arith
+      grind (arith, length_linked, size, references-length)
 
   pub child_there : (table : Table Block) (count other : ℕ) → HasSomeChildren old place children table count → IsSome (block_at old other) → IsSome (block_at table other)
   child_there table count other so_far some = subst (λ t. IsSome (block_at t other)) (sym so_far.is) (changed-there old place other (with_some_children children count) some)
@@ -124,9 +119,7 @@ module _ (old : Table Block) (list : List Part) (places : List ℕ) (table : Tab
   places_apart : (number : ℕ) (later : Part) → suc count ≤ number → slice_get list number ≡ Some later → get_or places number 0 ≢ get_or places count 0
   places_apart number later after at' same =
       let other = so_far.unlinked number later (omega arith) at' in
-      let one : here.block ≡ other.block = same_Some here.block other.block (sym here.there ∙ ap (block_at table) (sym same) ∙ other.there) in
-      let numbers : count ≡ number = sym here.number_is ∙ ap (λ (b : Block). b.part) one ∙ other.number_is in
-      absurd (omega arith)
+      grind (arith, here, same_Some)
 
   pub one_linked : (new : Table Block) → new ≡ with_block_change table (get_or places count 0) (linked_block places part) → AreLinkedSoFar old list places new (suc count)
   one_linked new is = record {
@@ -158,14 +151,10 @@ module _ (old : Table Block) (list : List Part) (places : List ℕ) (table : Tab
 
   -- its block has a reference for each child
   pub children_count : (child : ℕ) → part.children ≡ Some child → HaveTheirChildren list → length (references_at table (get_or places count 0)) ≡ length (take part.references (drop child places))
-  children_count child some have =
-      let words : length (references_at table (get_or places count 0)) ≡ part.references = ap length (references-length table (get_or places count 0) here.block here.there) ∙ ap length here.references ∙ length-replicate part.references None in
-      words ∙ omega (arith, have.within count part child at some, length-take {A = ℕ}, length-drop {A = ℕ})
+  children_count child some have = grind (arith, references-length, here, length-replicate, length-take, length-drop)
 
 pub all_linked : (old : Table Block) (list : List Part) (places : List ℕ) (table : Table Block) → length places ≡ length list → AreLinkedSoFar old list places table (length list) → table ≡ linked_parts places old places list
-all_linked old list places table same so_far =
-    let none : drop (length list) places ≡ [] = ap (λ n. drop n places) (sym same) ∙ drop-length places in
-    sym (so_far.left ∙ ap (λ rest. linked_parts places table rest (drop (length list) list)) none)
+all_linked old list places table same so_far = grind (arith, drop-length)
 
 -- nothing is left to do from a part without children on
 pub rest_linked : (left count : ℕ) (old : Table Block) (list : List Part) (places : List ℕ) (table : Table Block) → HaveTheirChildren list → length places ≡ length list → count + left ≡ length list

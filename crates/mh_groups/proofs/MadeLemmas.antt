@@ -1,5 +1,5 @@
 -- Parts made one after the other: what is left to be made, and how those that are made are taken back.
-use Rattle.std.proofs.Common.{unwrap_or, replicate, ◌≡◌, ◌≢◌, ℕ, zero, suc, ◌<◌, ◌≤◌, Bool, true, false, inl, inr, List, [], ◌∷◌, ◌++◌, length, get_or, set, take, drop, slice_get, Option, Some, None, is_none, option_map, option_and_then, refl, sym, ap, ◌∙◌, arith}
+use Rattle.std.proofs.Common.{unwrap_or, replicate, ◌≡◌, ◌≢◌, ℕ, zero, suc, ◌<◌, ◌≤◌, Bool, true, false, inl, inr, List, [], ◌∷◌, ◌++◌, length, get_or, set, take, drop, slice_get, Option, Some, None, is_none, option_map, refl, sym, ap, ◌∙◌, arith}
 use Rattle.std.proofs.{Math.Seq.{take-suc-set, take-length, drop-length}, lemmas.Bool.{cases_eq, false≢true}}
 use Rattle.std.proofs.lemmas.Option.{none-some, same_Some, slice_get_within}
 use Rattle.std.proofs.lemmas.List.{get_or-set_same, get_or-set_other, append_assoc, append-nil, length-replicate}
@@ -7,9 +7,9 @@ use Rattle.mh_table_laws.proofs.{objects.RefusedObjects.none-part, Lists.to_some
 use Rattle.mh_table_laws.proofs.placing.Places.{taken_page, block_at-with_taken_same, block_at-with_taken_there, with_released-with_taken}
 use Rattle.mh_model.specs.Classes.{Part, class_of, part_words, slots_in}
 use Rattle.mh_model.specs.Pages.{Page, Table, page_number, page_at, block_at, class_at, least_place, with_taken, with_released, IsFreeFor, slot_number, block_count, live_in, count_at, page_with, page_for}
-use Rattle.mh_model.specs.Table.{Block, Made, MadeParts, new_block, made_in_class, made_part, made_parts}
-use Rattle.mh_model.specs.{declared.deed.Deed.Deed, Deeds.{made_deed, make_deeds}}
-use Rattle.mh_groups.specs.{Making.{without_parts, CanBeUnmade, AllCanBeUnmade, AreUnlinked}, Placed.placed_deeds}
+use Rattle.mh_model.specs.{Table.{Block, Made, MadeParts, new_block, made_part, made_parts}, declared.deed.Deed.Deed}
+use Rattle.mh_model.specs.Deeds.{made_deed, make_deeds}
+use Rattle.mh_groups.specs.Auxiliary.{without_parts, CanBeUnmade, AllCanBeUnmade, AreUnlinked, placed_deeds}
 use Rattle.mh_groups.proofs.TellLemmas.{deeds-more, make_deeds-more}
 
 -- Lists ------------------------------------------------------------------------------------------
@@ -74,20 +74,15 @@ module _ (table : Table Block) (size place : ℕ) (block : Block) (free : IsFree
   taken_back = ap (with_released (with_taken table size place block) place) fresh_page ∙ with_released-with_taken table size place block free.empty
 
   pub can_be_unmade : CanBeUnmade (with_taken table size place block) place is_fresh
-  can_be_unmade = record {
-    there = to_some _ block (block_at-with_taken_same table size place block free);
-    alone = λ e. count_at-fresh table size place block free (free_page (page_at table (page_number place)) (sym fresh_page ∙ e));
-  }
+  can_be_unmade = grind (arith, to_some, block_at-with_taken_same, count_at-fresh, free_page, fresh_page)
 
   pub without_one_more : (places : List ℕ) (fresh : List Bool) (count : ℕ) → count < length places → count < length fresh
       → without_parts (with_taken table size place block) (set places count place) (set fresh count is_fresh) (suc count) ≡ without_parts table places fresh count
-  without_one_more places fresh count room room' =
-      rw (get_or-set_same places count place 0 room, get_or-set_same fresh count is_fresh false room', taken_back) (without_parts-set count table places fresh count place is_fresh (omega arith))
+  without_one_more places fresh count room room' = grind (arith, get_or-set_same, taken_back, without_parts-set)
 
   pub one_more_can_be_unmade : (places : List ℕ) (fresh : List Bool) (count : ℕ) → count < length places → count < length fresh → AllCanBeUnmade table places fresh count
       → AllCanBeUnmade (with_taken table size place block) (set places count place) (set fresh count is_fresh) (suc count)
-  one_more_can_be_unmade places fresh count room room' can =
-      rw (get_or-set_same places count place 0 room, get_or-set_same fresh count is_fresh false room', taken_back) (can_be_unmade, all_can_be_unmade-set count table places fresh count place is_fresh (omega arith) can)
+  one_more_can_be_unmade places fresh count room room' can = grind (arith, get_or-set_same, taken_back, can_be_unmade, all_can_be_unmade-set)
 
 -- What is left to be made ------------------------------------------------------------------------
 
@@ -103,19 +98,15 @@ made_after-twice places place (Some made) = ap (λ all. Some (record { places = 
 -- a part made, and then those after it
 pub made_parts-more : (table : Table Block) (birth stamp index : ℕ) (part : Part) (parts : List Part) (made : Made) → made_part table birth stamp index part ≡ Some made
     → made_parts table birth stamp index (part ∷ parts) ≡ option_map (λ (rest : MadeParts). record { places = made.place ∷ rest.places; table = rest.table }) (made_parts made.table birth stamp (suc index) parts)
-made_parts-more table birth stamp index part parts made e =
-    ap (option_and_then (λ (made : Made). option_map (λ (rest : MadeParts). record { places = made.place ∷ rest.places; table = rest.table }) (made_parts made.table birth stamp (suc index) parts))) e
+made_parts-more table birth stamp index part parts made e = grind arith
 
 pub made_parts-none : (table : Table Block) (birth stamp index : ℕ) (part : Part) (parts : List Part) → made_part table birth stamp index part ≡ None → made_parts table birth stamp index (part ∷ parts) ≡ None
-made_parts-none table birth stamp index part parts e =
-    ap (option_and_then (λ (made : Made). option_map (λ (rest : MadeParts). record { places = made.place ∷ rest.places; table = rest.table }) (made_parts made.table birth stamp (suc index) parts))) e
+made_parts-none table birth stamp index part parts e = grind arith
 
 -- a part whose class has a least place
 pub made_part-at : (table : Table Block) (birth stamp index size place : ℕ) (part : Part) → class_of (part_words part) ≡ Some size → least_place table size ≡ Some place
     → made_part table birth stamp index part ≡ Some (record { place = place; table = with_taken table size place (new_block birth stamp index part) })
-made_part-at table birth stamp index size place part class least =
-    ap (option_and_then (made_in_class table (new_block birth stamp index part))) class
-    ∙ ap (option_map (λ p. record { place = p; table = with_taken table size p (new_block birth stamp index part) })) least
+made_part-at table birth stamp index size place part class least = grind arith
 
 -- So many parts of an object are made: what is left of the model's making, and how to take them back
 pub record AreMadeSoFar (old : Table Block) (birth stamp : ℕ) (list : List Part) (table : Table Block) (places : List ℕ) (fresh : List Bool) (count : ℕ) : Type 0 where
@@ -159,38 +150,22 @@ one_so_far old birth stamp list table places fresh count part size place is_fres
     here = made_deed table birth count part place
 
     born : (number : ℕ) (p : Part) → number < suc count → slice_get list number ≡ Some p → block_at (with_taken table size place block) (get_or (set places count place) number 0) ≡ Some (new_block birth stamp number p)
-    born number p below is = elim (cases_eq number count) [
-      | inl same ↦
-          let part_is : part ≡ p = same_Some part p (sym at ∙ ap (slice_get list) (sym same) ∙ is) in
-          rw (same, get_or-set_same places count place 0 room, ← part_is) (block_at-with_taken_same table size place block free)
-      | inr apart ↦
-          rw (get_or-set_other places count number place 0 apart) (block_at-with_taken_there table size place (get_or places number 0) block free (to_some _ _ (so_far.born number p (omega arith) is)) ∙ so_far.born number p (omega arith) is)
-    ]
+    born number p below is = grind (arith, cases_eq, inl, same_Some, get_or-set_same, block_at-with_taken_same, block, inr, get_or-set_other, block_at-with_taken_there, to_some)
 
 -- a part without a place leaves none made
 pub full_so_far : (old : Table Block) (birth stamp : ℕ) (list : List Part) (table : Table Block) (places : List ℕ) (fresh : List Bool) (count : ℕ) (part : Part) (size : ℕ) → AreMadeSoFar old birth stamp list table places fresh count
     → slice_get list count ≡ Some part → class_of (part_words part) ≡ Some size → least_place table size ≡ None → made_parts old birth stamp 0 list ≡ None
-full_so_far old birth stamp list table places fresh count part size so_far at class least =
-    so_far.left
-    ∙ ap (λ parts. option_map (made_after (take count places)) (made_parts table birth stamp count parts)) (drop-slice list count part at)
-    ∙ ap (option_map (made_after (take count places))) (made_parts-none table birth stamp count part (drop (suc count) list) (none-part table birth stamp count part size class least))
+full_so_far old birth stamp list table places fresh count part size so_far at class least = grind (arith, drop-slice, made_parts-none, none-part)
 
 -- all parts are made
 pub all_so_far : (old : Table Block) (birth stamp : ℕ) (list : List Part) (table : Table Block) (places : List ℕ) (fresh : List Bool) → AreMadeSoFar old birth stamp list table places fresh (length list)
     → made_parts old birth stamp 0 list ≡ Some (record { places = take (length list) places; table = table })
-all_so_far old birth stamp list table places fresh so_far =
-    so_far.left
-    ∙ ap (λ parts. option_map (made_after (take (length list) places)) (made_parts table birth stamp (length list) parts)) (drop-length list)
-    ∙ ap (λ all. Some (record { places = all; table = table })) (append-nil (take (length list) places))
+all_so_far old birth stamp list table places fresh so_far = grind (arith, drop-length, append-nil)
 
 -- and told of
 pub told_so_far : (old : Table Block) (birth stamp : ℕ) (list : List Part) (table : Table Block) (places : List ℕ) (fresh : List Bool) → AreMadeSoFar old birth stamp list table places fresh (length list)
     → make_deeds old birth stamp 0 list ≡ placed_deeds table birth places fresh 0 list
-told_so_far old birth stamp list table places fresh so_far =
-    so_far.told
-    ∙ ap (λ parts. placed_deeds table birth places fresh 0 (take (length list) list) ++ make_deeds table birth stamp (length list) parts) (drop-length list)
-    ∙ append-nil (placed_deeds table birth places fresh 0 (take (length list) list))
-    ∙ ap (placed_deeds table birth places fresh 0) (take-length list)
+told_so_far old birth stamp list table places fresh so_far = grind (arith, drop-length, append-nil, take-length)
 
 pub unlinked_so_far : (old : Table Block) (birth stamp : ℕ) (list : List Part) (table : Table Block) (places : List ℕ) (fresh : List Bool) → AreMadeSoFar old birth stamp list table places fresh (length list) → AreUnlinked table places list 0
 unlinked_so_far old birth stamp list table places fresh so_far number part least at =

@@ -1,15 +1,15 @@
 -- How many places are free for a class as parts are made: each full part takes one of them, and no part frees any.
-use Rattle.std.proofs.Common.{◌≡◌, ◌≢◌, ℕ, zero, suc, ◌+◌, ◌<◌, ◌≤◌, ◌==◌, if◌then◌else◌, Bool, true, false, not, is_some, ◌⊎◌, inl, inr, List, [], ◌∷◌, length, get_or, set, replicate, Option, Some, None, option_map, option_and_then, refl, sym, ap, ◌∙◌, subst, arith, eq-eqb}
+use Rattle.std.proofs.Common.{◌≡◌, ◌≢◌, ℕ, zero, suc, ◌+◌, ◌<◌, ◌≤◌, Bool, true, false, ◌⊎◌, inl, inr, List, [], ◌∷◌, length, get_or, set, replicate, Option, Some, None, option_map, option_and_then, refl, sym, ap, ◌∙◌, arith, eq-eqb}
 use Rattle.std.proofs.lemmas.Bool.{cases_eq, cases_Bool, ne_eqb, eqb-true, and_parts}
 use Rattle.std.proofs.lemmas.Option.{none-some, same_Some}
-use Rattle.mh_model.specs.Classes.{Part, class_of, part_words, slots_in}
-use Rattle.mh_model.specs.Pages.{Page, Table, page_number, slot_number, page_at, block_in, page_with, page_for, with_taken, HaveTheirSlots, IsFreeFor}
+use Rattle.mh_model.specs.Classes.{Part, class_of, part_words}
+use Rattle.mh_model.specs.Pages.{Page, Table, page_at, block_in, page_with, page_for, with_taken, HaveTheirSlots, IsFreeFor}
 use Rattle.mh_model.specs.Table.{Block, Made, MadeParts, new_block, made_part, made_parts, group_of, made_group}
 use Rattle.mh_pages.specs.FreePlaces.{empty_count, free_in, free_places}
-use Rattle.mh_table_laws.specs.NewObjects.{IsMade}
+use Rattle.mh_table_laws.specs.Auxiliary.{IsMade}
 use Rattle.mh_table_laws.proofs.placing.Places.{IsShaped, shaped-slots}
 use Rattle.mh_table_laws.proofs.objects.MadeGroups.{made_part-is, made_parts-shaped}
-use Rattle.mh_groups.specs.Room.{is_full, full_count}
+use Rattle.mh_groups.specs.Auxiliary.{is_full, full_count}
 use Rattle.mh_groups.proofs.{MadeLemmas.{made_part-at, made_parts-more}, FullLemmas.{one_if, count_part}}
 
 all_empty : (X : Type 0) (count : ℕ) → empty_count {X = X} (replicate count None) ≡ count
@@ -34,20 +34,13 @@ module _ {X : Type 0} where
   -- A page of which a place is taken has one place less for the class
   page_taken : (content : Option (Page X)) (size slot : ℕ) (block : X) → slot < length (page_for size content).slots → (page_for size content).class_size ≡ size → option_and_then (block_in slot) content ≡ None
       → suc (free_in size (Some (page_with slot (Some block) (page_for size content)))) ≡ free_in size content
-  page_taken None size slot block within of_class empty =
-      ap (λ b. suc (if b then empty_count (set (replicate (slots_in size) None) slot (Some block)) else 0)) (eq-eqb size size refl)
-      ∙ slot_taken (replicate (slots_in size) None) slot block within (none_at (slots_in size) slot)
-      ∙ all_empty X (slots_in size)
-  page_taken (Some page) size slot block within of_class empty =
-      ap (λ b. suc (if b then empty_count (set page.slots slot (Some block)) else 0)) (eq-eqb page.class_size size of_class)
-      ∙ slot_taken page.slots slot block within empty
-      ∙ sym (ap (λ b. if b then empty_count page.slots else 0) (eq-eqb page.class_size size of_class))
+  page_taken None size slot block within of_class empty = grind (arith, eq-eqb, slot_taken, none_at, all_empty)
+  page_taken (Some page) size slot block within of_class empty = grind (arith, eq-eqb, slot_taken)
 
   -- and no more for another
   page_other : (content : Option (Page X)) (size other slot : ℕ) (block : X) → (page_for size content).class_size ≡ size → size ≢ other
       → free_in other (Some (page_with slot (Some block) (page_for size content))) ≡ 0
-  page_other content size other slot block of_class apart =
-      ap (λ b. if b then empty_count (set (page_for size content).slots slot (Some block)) else 0) (ne_eqb _ _ (λ e. apart (sym of_class ∙ e)))
+  page_other content size other slot block of_class apart = grind (arith, ne_eqb)
 
   -- Places of all pages --------------------------------------------------------------------------
 
@@ -58,21 +51,11 @@ module _ {X : Type 0} where
 
   -- A place taken for a class is one less for it
   pub places_taken : (table : Table X) (size place : ℕ) (block : X) → IsFreeFor table size place → suc (free_places (with_taken table size place block) size) ≡ free_places table size
-  places_taken table size place block free =
-      omega (
-        arith,
-        places_set table (page_number place) (Some (page_with (slot_number place) (Some block) (page_for size (page_at table (page_number place))))) size free.inside,
-        page_taken (page_at table (page_number place)) size (slot_number place) block free.within free.of_class free.empty,
-      )
+  places_taken table size place block free = grind (arith, places_set, page_taken)
 
   -- and none more for another
   pub places_other : (table : Table X) (size other place : ℕ) (block : X) → IsFreeFor table size place → size ≢ other → free_places (with_taken table size place block) other ≤ free_places table other
-  places_other table size other place block free apart =
-      omega (
-        arith,
-        places_set table (page_number place) (Some (page_with (slot_number place) (Some block) (page_for size (page_at table (page_number place))))) other free.inside,
-        page_other (page_at table (page_number place)) size other (slot_number place) block free.of_class apart,
-      )
+  places_other table size other place block free apart = grind (arith, places_set, page_other)
 
 -- Parts made -------------------------------------------------------------------------------------
 
@@ -83,10 +66,7 @@ made_part-shaped table birth stamp index part first shaped made =
 
 -- a full part takes one place of the largest class
 full_class : (part : Part) (size : ℕ) → is_full part ≡ true → class_of (part_words part) ≡ Some size → size ≡ 64
-full_class part size full class =
-    let words : part_words part ≡ 64 = eqb-true _ _ (and_parts (not (is_some part.children)) (part_words part == 64) full).1 in
-    let largest : class_of 64 ≡ Some 64 = refl in
-    same_Some size 64 (sym class ∙ (ap class_of words ∙ largest))
+full_class part size full class = grind (arith, eqb-true, and_parts, same_Some)
 
 one_part : (table : Table Block) (birth stamp index : ℕ) (part : Part) (first : Made) → IsShaped table → made_part table birth stamp index part ≡ Some first
     → one_if (is_full part) + free_places first.table 64 ≤ free_places table 64
@@ -106,13 +86,8 @@ one_part table birth stamp index part first shaped made = by_size (cases_eq one.
     at_most_one false = omega arith
 
     by_size : (one.size ≡ 64) ⊎ (one.size ≡ 64 → ⊥) → one_if (is_full part) + free_places first.table 64 ≤ free_places table 64
-    by_size (inl largest) =
-        omega (arith, at_most_one (is_full part), subst (λ size. suc (free_places (with_taken table one.size first.place block) size) ≡ free_places table size) largest (places_taken table one.size first.place block one.free), ap (λ t. free_places t 64) table_is)
-    by_size (inr other) =
-        elim (cases_Bool (is_full part)) [
-          | inl full ↦ absurd (other (full_class part one.size full one.class))
-          | inr less ↦ omega (arith, ap (λ b. one_if b) less, places_other table one.size 64 first.place block one.free other, ap (λ t. free_places t 64) table_is)
-        ]
+    by_size (inl largest) = grind (arith, at_most_one, one, block, places_taken, table_is)
+    by_size (inr other) = grind (arith, cases_Bool, inl, full_class, one, inr, one_if, places_other, block, table_is)
 
 -- Parts that are all made found a place for each full one
 pub full_parts_fit : (list : List Part) (table : Table Block) (birth stamp index : ℕ) → IsShaped table → (made : MadeParts) → made_parts table birth stamp index list ≡ Some made → full_count list ≤ free_places table 64

@@ -6,7 +6,7 @@ use Rattle.std.proofs.lemmas.Option.{none-some, same_Some}
 use Rattle.mh_model.specs.{Classes.Part, Deeds.{tier_of, made_deed, make_deeds}}
 use Rattle.mh_model.specs.Pages.{Page, Table, page_number, slot_number, page_at, block_at, class_at, flag_at, page_with, page_for, with_taken, IsFreeFor}
 use Rattle.mh_model.specs.Table.{Block, Made, made_part}
-use Rattle.mh_groups.specs.{Placed.{tier_by, tier_at, part_deed, placed_deed, placed_deeds}, Making.AreUnlinked}
+use Rattle.mh_groups.specs.Auxiliary.{tier_by, tier_at, placed_deed, placed_deeds, AreUnlinked}
 use Rattle.mh_table_laws.proofs.{Lists.{from_some, to_some, below_length}, placing.Places.{block-slot, taken_page}}
 
 -- One part ---------------------------------------------------------------------------------------
@@ -38,10 +38,7 @@ flags-taken table size place block free number = elim (cases_eq number (page_num
 -- the same flags tell the same
 deeds-flags : (list : List Part) (table new : Table Block) (birth : ℕ) (places : List ℕ) (fresh : List Bool) (index : ℕ) → ((number : ℕ) → flag_at new number ≡ flag_at table number) → placed_deeds new birth places fresh index list ≡ placed_deeds table birth places fresh index list
 deeds-flags [] table new birth places fresh index same = refl
-deeds-flags (part ∷ list) table new birth places fresh index same =
-    let place = get_or places index 0 in
-    ap (λ deeds. placed_deed new birth places fresh index part ∷ deeds) (deeds-flags list table new birth places fresh (suc index) same)
-    ∙ ap (λ flag. part_deed birth index part place (tier_by flag (get_or fresh index false)) ∷ placed_deeds table birth places fresh (suc index) list) (same (page_number place))
+deeds-flags (part ∷ list) table new birth places fresh index same = grind arith
 
 -- what is written past so many places changes nothing
 deeds-set : (list : List Part) (table : Table Block) (birth : ℕ) (places : List ℕ) (fresh : List Bool) (index at place : ℕ) (is_fresh : Bool) → index + length list ≤ at → placed_deeds table birth (set places at place) (set fresh at is_fresh) index list ≡ placed_deeds table birth places fresh index list
@@ -55,9 +52,7 @@ deeds-set (part ∷ list) table birth places fresh index at place is_fresh past 
 pub deeds-last : (list : List Part) (table : Table Block) (birth : ℕ) (places : List ℕ) (fresh : List Bool) (index count number : ℕ) (part : Part) → slice_get list count ≡ Some part → index + count ≡ number
     → placed_deeds table birth places fresh index (take (suc count) list) ≡ placed_deeds table birth places fresh index (take count list) ++ placed_deed table birth places fresh number part ∷ []
 deeds-last [] table birth places fresh index count number part at is = absurd (none-some part at)
-deeds-last (first ∷ list) table birth places fresh index zero number part at is =
-    let same : index ≡ number = omega arith in
-    ap (λ p. placed_deed table birth places fresh index p ∷ []) (same_Some first part at) ∙ ap (λ n. placed_deed table birth places fresh n part ∷ []) same
+deeds-last (first ∷ list) table birth places fresh index zero number part at is = grind (arith, same_Some)
 deeds-last (first ∷ list) table birth places fresh index (suc count) number part at is =
     ap (λ deeds. placed_deed table birth places fresh index first ∷ deeds) (deeds-last list table birth places fresh (suc index) count number part at (omega arith))
 
@@ -78,28 +73,19 @@ deeds-more table birth size place block places fresh list count part is_fresh fr
     flags = flags-taken table size place block free
 
     here : placed_deed new birth (set places count place) (set fresh count is_fresh) count part ≡ made_deed table birth count part place
-    here =
-        rw (get_or-set_same places count place 0 room, get_or-set_same fresh count is_fresh false room')
-        (ap (part_deed birth count part place) (ap (λ flag. tier_by flag is_fresh) (flags (page_number place)) ∙ tier-before table place is_fresh fresh_is))
+    here = grind (arith, get_or-set_same, flags, tier-before)
 
 -- The model's deeds ------------------------------------------------------------------------------
 
 pub make_deeds-more : (table : Table Block) (birth stamp index : ℕ) (part : Part) (parts : List Part) (made : Made) → made_part table birth stamp index part ≡ Some made
     → make_deeds table birth stamp index (part ∷ parts) ≡ made_deed table birth index part made.place ∷ make_deeds made.table birth stamp (suc index) parts
-make_deeds-more table birth stamp index part parts made e =
-    ap (λ (o : Option Made). elim o [
-      | None ↦ []
-      | Some m ↦ made_deed table birth index part m.place ∷ make_deeds m.table birth stamp (suc index) parts
-    ]) e
+make_deeds-more table birth stamp index part parts made e = grind arith
 
 -- Telling ----------------------------------------------------------------------------------------
 
 -- the page of a block is in the table
 pub page-inside : (table : Table Block) (place : ℕ) → IsSome (block_at table place) → page_number place < length table
-page-inside table place there =
-    let (block, is) = from_some (block_at table place) there in
-    let slot = block-slot table place block is in
-    below_length table (page_number place) slot.page slot.in_use
+page-inside table place there = grind (arith, from_some, block-slot, below_length)
 
 found-below : {X : Type 0} (list : List X) (i : ℕ) → i < length list → (x : X) × (slice_get list i ≡ Some x)
 found-below [] i below = absurd (omega arith)
@@ -112,5 +98,4 @@ pub parts-there : (table : Table Block) (places rest all : List ℕ) (list : Lis
 parts-there table places rest all list size is many enough unlinked number below =
     let (part, at) = found-below list number below in
     let one = unlinked number part (omega arith) at in
-    let same : get_or all number 0 ≡ get_or places number 0 = ap (λ xs. get_or xs number 0) is ∙ get_or-take size (places ++ rest) number 0 (omega arith) ∙ get_or_append_left places rest 0 number (omega arith) in
-    to_some _ _ (ap (block_at table) same ∙ one.there)
+    grind (arith, get_or-take, get_or_append_left, to_some)

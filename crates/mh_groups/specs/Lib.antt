@@ -1,3 +1,1 @@
-pub mod Making
-pub mod Placed
-pub mod Room
+pub mod Auxiliary

@@ -17,8 +17,7 @@ ghost use Rattle.mh_model.specs.Table.{references_at, with_block_change, made_pa
 ghost use Rattle.mh_classes.specs.Fits.{AreParts};
 ghost use Rattle.mh_pages.specs.FreePlaces.{free_places};
 ghost use Rattle.mh_deeds.specs.Logs.{Told};
-ghost use Rattle.mh_groups.specs.Making.{HaveTheirChildren, without_parts, AllCanBeUnmade, AreUnlinked};
-ghost use Rattle.mh_groups.specs.{Placed.{tier_at, part_deed, placed_deeds}, Room.full_count};
+ghost use Rattle.mh_groups.specs.Auxiliary.{HaveTheirChildren, without_parts, AllCanBeUnmade, AreUnlinked, tier_at, part_deed, placed_deeds, full_count};
 
 use mh_blocks::blocks::{Blocks, Full};
 use mh_classes::class::Class;

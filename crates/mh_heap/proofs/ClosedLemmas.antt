@@ -1,5 +1,5 @@
 -- What keeps a world closed.
-use Rattle.std.proofs.Common.{◌≡◌, ℕ, zero, suc, ◌⊎◌, inl, inr, refl, ⊎_elim, Option, Some, None, List, [], ◌∷◌, ◌++◌, length, set, get_or, IsSome}
+use Rattle.std.proofs.Common.{arith, ◌≡◌, ℕ, zero, suc, ◌⊎◌, inl, inr, refl, ⊎_elim, Option, Some, None, List, [], ◌∷◌, ◌++◌, length, set, get_or, IsSome}
 use Rattle.mh_model.specs.World.{Object, World, IsClosed, object_at, object_named, reference_of, with_slot, cleared}
 
 -- what stands in a list with one place written: what was written, or what stood there
@@ -51,26 +51,16 @@ named_there world (Some birth) field target closed is = closed.references birth 
 
 -- A slot that names what is there
 pub closed_slot : (world : World) (slot : ℕ) (name : Option ℕ) → IsClosed world → ((birth : ℕ) → name ≡ Some birth → IsSome (object_at world birth)) → IsClosed (with_slot world slot name)
-closed_slot world slot name closed there = record {
-  slots = λ at birth is. ⊎_elim (λ new. there birth new) (λ old. closed.slots at birth old) (at_set world.slots slot at name birth is);
-  references = closed.references;
-}
+closed_slot world slot name closed there = grind (arith, at_set)
 
 -- an object whose references name what is there, in the place of one
 pub closed_exchanged : (world : World) (birth : ℕ) (new : Object) → IsClosed world → ((field target : ℕ) → get_or new.references field None ≡ Some target → IsSome (object_at world target))
     → IsClosed (record world { objects = set world.objects birth (Some new) })
-closed_exchanged world birth new closed there = record {
-  slots = λ slot target is. there_set world.objects birth target new (closed.slots slot target is);
-  references = λ at field target is. there_set world.objects birth target new (⊎_elim (λ of. there field target of) (λ old. closed.references at field target old) (names_set world.objects birth at new field target is));
-}
+closed_exchanged world birth new closed there = grind (arith, there_set, names_set)
 
 -- one more object, whose references are null
 pub closed_added : (world : World) (new : Object) → IsClosed world → ((field : ℕ) → get_or new.references field None ≡ None) → IsClosed (record world { objects = world.objects ++ Some new ∷ [] })
-closed_added world new closed null = record {
-  slots = λ slot target is. there_push world.objects target new (closed.slots slot target is);
-  references = λ at field target is. there_push world.objects target new
-      (⊎_elim (λ of. let none : get_or new.references field None ≡ None = null field in cc) (λ old. closed.references at field target old) (names_push world.objects at new field target is));
-}
+closed_added world new closed null = grind (arith, there_push, names_push)
 
 -- emptied slots name nothing new
 at_cleared : (slots : List (Option ℕ)) (slot n at birth : ℕ) → get_or (cleared slots slot n) at None ≡ Some birth → get_or slots at None ≡ Some birth
@@ -79,7 +69,4 @@ at_cleared slots slot (suc n) at birth is =
     ⊎_elim (λ new. cc) (λ old. old) (at_set slots slot at None birth (at_cleared (set slots slot None) (suc slot) n at birth is))
 
 pub closed_cleared : (world : World) (slot n : ℕ) (ended : _) → IsClosed world → IsClosed (record world { slots = cleared world.slots slot n; ended = ended })
-closed_cleared world slot n ended closed = record {
-  slots = λ at birth is. closed.slots at birth (at_cleared world.slots slot n at birth is);
-  references = closed.references;
-}
+closed_cleared world slot n ended closed = grind (arith, at_cleared)

@@ -1,5 +1,5 @@
 -- What a heap that keeps every object shows, and that it stays closed.
-use Rattle.std.proofs.Common.{◌≡◌, ℕ, zero, suc, ◌+◌, ◌-◌, ◌<◌, Bool, Option, Some, None, List, [], ◌∷◌, ◌++◌, length, map, set, get_or, replicate, IsSome, if◌then◌else◌, true, false, option_map, refl, sym, ap, ◌∙◌, subst, ⊎_elim, arith, add-one}
+use Rattle.std.proofs.Common.{◌≡◌, ℕ, zero, suc, ◌+◌, ◌-◌, ◌<◌, Bool, Option, Some, None, List, [], ◌∷◌, ◌++◌, length, map, set, get_or, replicate, IsSome, if◌then◌else◌, true, false, option_map, refl, sym, ◌∙◌, subst, ⊎_elim, arith, add-one}
 use Rattle.std.proofs.{lemmas.List.{get_or-map, map-set, map_push, length-map}, lemmas.Option.same_Some}
 use Rattle.mh_model.specs.declared.config.Config.{Config}
 use Rattle.mh_model.specs.World.{Object, World, IsClosed, reference_of, slot_at, object_in, blank, with_reference, with_number, cleared}
@@ -15,9 +15,7 @@ named_below config objects slots ended slot birth closed is = there_below (map S
 
 -- an object by its birth
 pub shown_at : (objects : List Object) (birth : ℕ) (object : Object) → birth < length (map Some objects) → object ≡ get_or objects birth object → get_or (map Some objects) birth None ≡ Some object
-shown_at objects birth object below is =
-    let within : birth < length objects = omega (arith, length-map objects Some) in
-    get_or-map Some objects birth object None within ∙ ap Some (sym is)
+shown_at objects birth object below is = grind (arith, length-map, get_or-map)
 
 -- one object changed
 pub map_change : (objects : List Object) (birth : ℕ) (change : Object → Object) (object : Object) → birth < length (map Some objects) → object ≡ get_or objects birth object
@@ -88,6 +86,4 @@ closed_made config objects items slots ended slot birth object references number
 
 -- one slot emptied, and the rest still to be emptied
 pub cleared_more : (slots : List (Option ℕ)) (slot end : ℕ) → slot < end → cleared slots slot (end - slot) ≡ cleared (set slots slot None) (slot + 1) (end - (slot + 1))
-cleared_more slots slot end below =
-    let next : end - slot ≡ suc (end - (slot + 1)) = omega arith in
-    rw (next, add-one)
+cleared_more slots slot end below = grind (arith, add-one)

@@ -4,7 +4,7 @@ use Rattle.std.proofs.lemmas.List.{append-nil}
 use Rattle.mh_model.specs.{declared.dump.DumpItem.DumpItem, declared.reply.Reply.Reply, Bytes.{Text, parts_at, number}}
 use Rattle.mh_model.specs.Forms.{within, numbered, are_below, u64}
 use Rattle.mh_model.specs.Replies.{placed_from, ascends, Ready, with_item, items_from}
-use Rattle.mh_history.specs.{Dumps.{placed_made, placed_numbers}, declared.dump.Placed.Placed}
+use Rattle.mh_history.specs.{Auxiliary.{placed_made, placed_numbers}, declared.dump.Placed.Placed}
 use Rattle.mh_history.proofs.PartLemmas.{numbered_other, number_small}
 
 -- A slot and what stands after its mark ----------------------------------------------------------
@@ -25,8 +25,7 @@ placed_parts : (parts : List Text) (slot place : Text) → parts ≡ slot ∷ pl
 placed_parts parts slot place is = rw is refl
 
 pub placed_unpointed : (mark : ℕ) (word slot place : Text) → parts_at mark word ≡ slot ∷ place ∷ [] → (length (parts_at 46 place) ≡ 2 → ⊥) → placed_numbers mark word ≡ None
-placed_unpointed mark word slot place is other =
-    placed_parts (parts_at mark word) slot place is ∙ numbered_other (u64 ∷ u64 ∷ u64 ∷ []) placed_made (slot ∷ parts_at 46 place) (λ same. other (omega arith))
+placed_unpointed mark word slot place is other = grind (arith, placed_parts, numbered_other)
 
 placed_words : (mark : ℕ) (word slot place first second : Text) → parts_at mark word ≡ slot ∷ place ∷ [] → parts_at 46 place ≡ first ∷ second ∷ [] → placed_numbers mark word ≡ three (slot ∷ first ∷ second ∷ [])
 placed_words mark word slot place first second is pair = placed_parts (parts_at mark word) slot place is ∙ ap (λ (parts : List Text). three (slot ∷ parts)) pair
@@ -90,15 +89,10 @@ low_by page slot item (Some items) low = rw (low items) refl
 
 pub dump_low : (all : Bool) (page slot : Option ℕ) (item : DumpItem) (line words rest : List Text) (word : Text) → goes_on page slot line ≡ all → line ≡ word ∷ words
     → items_from Ready (word ∷ words) ≡ with_item (Some item) (items_from Ready rest) → ((items : List DumpItem) → ascends page slot (item ∷ items) ≡ false) → false ≡ all
-dump_low all page slot item line words rest word done is read low =
-    sym (low_by page slot item (items_from Ready rest) low)
-    ∙ (ap (λ (read : Option (List DumpItem)). is_some (option_and_then (λ items. within (ascends page slot items) (Reply.Dump items)) read)) (sym read)
-    ∙ (ap (goes_on page slot) (sym is) ∙ done))
+dump_low all page slot item line words rest word done is read low = grind (arith, low_by)
 
 pub dump_wrong : (all : Bool) (page slot : Option ℕ) (line words : List Text) (word : Text) → goes_on page slot line ≡ all → line ≡ word ∷ words → items_from Ready (word ∷ words) ≡ None → false ≡ all
-dump_wrong all page slot line words word done is none =
-    ap (λ (read : Option (List DumpItem)). is_some (option_and_then (λ items. within (ascends page slot items) (Reply.Dump items)) read)) (sym none)
-    ∙ (ap (goes_on page slot) (sym is) ∙ done)
+dump_wrong all page slot line words word done is none = grind arith
 
 -- Items one after another ------------------------------------------------------------------------
 
@@ -114,8 +108,7 @@ items_next all front kept item line words rest word done is read pushed =
 
 pub items_wrong : (all : Option (List DumpItem)) (front : List DumpItem) (line words : List Text) (word : Text) → option_map (λ more. front ++ more) (items_from Ready line) ≡ all → line ≡ word ∷ words
     → items_from Ready (word ∷ words) ≡ None → all ≡ None
-items_wrong all front line words word done is none =
-    sym done ∙ (ap (λ (ws : List Text). option_map (λ more. front ++ more) (items_from Ready ws)) is ∙ rw none refl)
+items_wrong all front line words word done is none = grind arith
 
 pub items_done : (all : Option (List DumpItem)) (front : List DumpItem) (line : List Text) → option_map (λ more. front ++ more) (items_from Ready line) ≡ all → line ≡ [] → all ≡ Some front
 items_done all front line done none = sym done ∙ (ap (λ (ws : List Text). option_map (λ more. front ++ more) (items_from Ready ws)) none ∙ ap Some (append-nil front))

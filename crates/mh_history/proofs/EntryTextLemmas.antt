@@ -1,5 +1,5 @@
 -- The text of an entry by its parts.
-use Rattle.std.proofs.Common.{◌≡◌, List, [], ◌∷◌, ◌++◌, refl, ap, ◌∙◌, append_assoc}
+use Rattle.std.proofs.Common.{arith, ◌≡◌, List, [], ◌∷◌, ◌++◌, refl, append_assoc}
 use Rattle.std.specs.Prelude.{codes, decimal}
 use Rattle.mh_model.specs.{declared.command.Event.Event, declared.reply.Reply.Reply, declared.history.Measured.Measured}
 use Rattle.mh_model.specs.{Bytes.{Text, joined, line_text}, Replies.{reply_words, reply_text}}
@@ -30,8 +30,7 @@ entry_parts : (e : Event) (r : Reply) (next : Text) (more : List Text)
     → joined ((event_words e ++ codes "=" ∷ reply_words r) ++ next ∷ more) ≡ joined (event_words e) ++ (codes " = " ++ (reply_text r ++ 32 ∷ joined (next ∷ more)))
 entry_parts e r next more =
     let full : Full (codes "=" ∷ reply_words r) = record { first = _; more = _; words_are = refl } in
-    let reply_is = joined_full (codes "=" ∷ reply_words r) next more full ∙ ap (λ (text : Text). text ++ 32 ∷ joined (next ∷ more)) (equals_part (reply_words r) (full_reply r)) in
-    rw append_assoc (joined_full (event_words e) (codes "=") (reply_words r ++ next ∷ more) (full_event e) ∙ ap (λ (text : Text). joined (event_words e) ++ 32 ∷ text) reply_is)
+    grind (arith, joined_full, equals_part, full_reply, append_assoc, full_event)
 
 pub measured_parts : (m : Measured)
     → joined (measured_words m)

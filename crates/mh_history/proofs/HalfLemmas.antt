@@ -8,7 +8,7 @@ use Rattle.mh_model.specs.Bytes.{Text, Cut, cut_after, with_byte, words, numbers
 use Rattle.mh_model.specs.HistoryTexts.{Halves, halves_at, entry_by, entry_of, measured_with, measured_by, measured_of}
 use Rattle.mh_model.proofs.TextLemmas.{text_is}
 use Rattle.mh_text.proofs.HalfLemmas.{words_then, after_words}
-use Rattle.mh_history.specs.Halves.{lacks, all_lack, IsAroundEquals}
+use Rattle.mh_history.specs.Auxiliary.{lacks, all_lack, IsAroundEquals}
 
 -- Bytes that a text lacks ------------------------------------------------------------------------
 
@@ -20,20 +20,13 @@ NoPiece byte text = cut_after byte text ≡ record { pieces = []; rest = text }
 
 rest_of : (byte b : ℕ) (text : Text) (pieces : List Text) (rest : Text) → with_byte b (record { pieces = pieces; rest = rest }) ≡ record { pieces = []; rest = b ∷ text }
     → cut_of pieces rest ≡ cut_of [] text
-rest_of byte b text [] rest same =
-    let rests : b ∷ rest ≡ b ∷ text = ap (λ (cut : Cut). cut.rest) same in
-    let one : rest ≡ text = cc in
-    ap (cut_of []) one
-rest_of byte b text (piece ∷ pieces) rest same =
-    let none : (b ∷ piece) ∷ pieces ≡ [] = ap (λ (cut : Cut). cut.pieces) same in
-    absurd cc
+rest_of byte b text [] rest same = grind arith
+rest_of byte b text (piece ∷ pieces) rest same = grind arith
 
 lacks_by : (byte b : ℕ) (text : Text) (is : Bool) → (b == byte) ≡ is → (NoPiece byte text → lacks byte text ≡ true)
     → cond is (record { pieces = [] ∷ (cut_after byte text).pieces; rest = (cut_after byte text).rest }) (with_byte b (cut_after byte text)) ≡ record { pieces = []; rest = b ∷ text }
     → lacks byte (b ∷ text) ≡ true
-lacks_by byte b text true same more none =
-    let no : [] ∷ (cut_after byte text).pieces ≡ [] = ap (λ (cut : Cut). cut.pieces) none in
-    absurd cc
+lacks_by byte b text true same more none = grind arith
 lacks_by byte b text false same more none = rw same (more (rest_of byte b text (cut_after byte text).pieces (cut_after byte text).rest none))
 
 pub lacks_of : (byte : ℕ) (text : Text) → NoPiece byte text → lacks byte text ≡ true
@@ -62,8 +55,7 @@ words_lack byte (b ∷ text) none =
 other_by : (byte : ℕ) (word mark : Text) (is : Bool) → is_text word mark ≡ is → lacks byte word ≡ true → lacks byte mark ≡ false → is_text word mark ≡ false
 other_by byte word mark true same none some =
     let one : word ≡ mark = text_is word mark same in
-    let both : lacks byte word ≡ lacks byte mark = ap (lacks byte) one in
-    absurd cc
+    grind arith
 other_by byte word mark false same none some = same
 
 cons_halves : (word : Text) (words : List Text) (halves : Option Halves)
@@ -111,15 +103,11 @@ read_some : (halves : Option Halves) (before units : List Text) → halves ≡ S
 read_some halves before units found = rw found refl
 
 pub no_units_in : (front rest : List Text) → all_lack 105 front ≡ true → halves_at (codes "units") rest ≡ None → measured_of (front ++ codes "=" ∷ rest) ≡ None
-no_units_in front rest all none =
-    let halves_are = units_after front rest all ∙ mapped_none front (halves_at (codes "units") rest) none in
-    read_none (halves_at (codes "units") (front ++ codes "=" ∷ rest)) halves_are
+no_units_in front rest all none = grind (arith, units_after, mapped_none, read_none)
 
 with_units : (front rest reply units : List Text) → all_lack 105 front ≡ true → halves_at (codes "units") rest ≡ Some (record { before = reply; after = units })
     → measured_of (front ++ codes "=" ∷ rest) ≡ option_and_then (λ entry. option_and_then (measured_with entry) (numbers units)) (entry_of Two (front ++ codes "=" ∷ reply))
-with_units front rest reply units no_units found =
-    let halves_are = units_after front rest no_units ∙ mapped_some front reply units (halves_at (codes "units") rest) found in
-    read_some (halves_at (codes "units") (front ++ codes "=" ∷ rest)) (front ++ codes "=" ∷ reply) units halves_are
+with_units front rest reply units no_units found = grind (arith, units_after, mapped_some, read_some)
 
 none_by : (entry : Option Entry) (units : List Text) → ((entry : Entry) → option_and_then (measured_with entry) (numbers units) ≡ None) → option_and_then (λ entry. option_and_then (measured_with entry) (numbers units)) entry ≡ None
 none_by None units none = refl
@@ -175,8 +163,7 @@ done_wrong front units no_units none = wrong_units front (codes "ok" ∷ codes "
 -- Lines ------------------------------------------------------------------------------------------
 
 pub line_words : (line before after : Text) → IsAroundEquals line before after → words line ≡ words before ++ codes "=" ∷ words after
-line_words line before after around =
-    ap words around.line_is ∙ (words_then before (61 ∷ 32 ∷ after) ∙ ap (λ (more : List Text). words before ++ more) (words_then (61 ∷ []) after))
+line_words line before after around = grind (arith, words_then)
 
 pub lacks_equals : (line before after : Text) → IsAroundEquals line before after → all_lack 61 (words before) ≡ true
 lacks_equals line before after around = words_lack 61 before around.first
@@ -221,10 +208,7 @@ around_equals : (line front back : Text) (n : ℕ) → line ≡ front ++ 61 ∷ 
 around_equals line front back n whole first long ends some begins =
     let front_is = ends_at front n long ends in
     let all : lacks 61 (take n front ++ 32 ∷ []) ≡ true = ap (lacks 61) (sym front_is) ∙ lacks_of 61 front first in
-    record {
-      line_is = whole ∙ (ap (λ (t : Text). front ++ 61 ∷ t) (begins_with back some begins) ∙ (ap (λ (t : Text). t ++ 61 ∷ 32 ∷ drop 1 back) front_is ∙ append_assoc (take n front) (32 ∷ []) (61 ∷ 32 ∷ drop 1 back)));
-      first = lacks_first 61 (take n front) (32 ∷ []) all;
-    }
+    grind (arith, begins_with, append_assoc, lacks_first)
 
 one_less : (text : Text) → 0 < length text → length text ≡ suc (length text - 1)
 one_less text some = omega arith

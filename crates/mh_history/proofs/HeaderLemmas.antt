@@ -1,5 +1,5 @@
 -- First lines of version 2.
-use Rattle.std.proofs.Common.{◌≡◌, ℕ, ◌<◌, nat_lt, true, Option, Some, None, option_map, option_and_then, List, [], ◌∷◌, length, refl, ◌∙◌, arith}
+use Rattle.std.proofs.Common.{◌≡◌, ℕ, ◌<◌, nat_lt, true, Option, Some, None, option_map, option_and_then, List, [], ◌∷◌, length, refl, arith}
 use Rattle.std.specs.Prelude.{codes}
 use Rattle.mh_model.specs.{Configs.{configured, configured_first}, Bytes.{Text, is_text, number, numbers}}
 use Rattle.mh_model.specs.{Forms.{within, u32}, HistoryTexts.{header_by, header_of}}
@@ -34,5 +34,4 @@ header_line a b c rest x y z = rw (x, y, z) refl
 
 pub header_none : (line after_a after_b after_c words : List Text) (a b c word : Text) (rules : ℕ) → line ≡ a ∷ after_a → after_a ≡ b ∷ after_b → after_b ≡ c ∷ after_c → after_c ≡ word ∷ words → is_text a (codes "history") ≡ true
     → is_text b (codes "2") ≡ true → is_text c (codes "rules") ≡ true → number word ≡ Some rules → few_numbers words ≡ None → header_of line ≡ None
-header_none line after_a after_b after_c words a b c word rules first second third fourth x y z is few =
-    rw (first, second, third, fourth) (header_line a b c (word ∷ words) x y z ∙ no_numbers word words rules is few)
+header_none line after_a after_b after_c words a b c word rules first second third fourth x y z is few = grind (arith, header_line, no_numbers)

@@ -10,10 +10,7 @@ use Rattle.mh_history.specs.Beginnings.{line_as_entry, line_as_measured, entries
 
 -- the pieces of a cut that is one line and what a reader of lines has left
 taken : (text : Text) (new : Lines) (n : ℕ) (line : Text) → TakesLine (lines_from 1 text) new n line → cut_after 10 text ≡ record { pieces = line ∷ new.lines; rest = new.rest }
-taken text new n line takes =
-    let lines : (cut_after 10 text).pieces ≡ line ∷ new.lines = takes.taken in
-    let rest : new.rest ≡ (cut_after 10 text).rest = takes.after in
-    ap (λ (pieces : List Text). record { pieces = pieces; rest = (cut_after 10 text).rest }) lines ∙ ap (λ (rest : Text). record { pieces = line ∷ new.lines; rest = rest }) (sym rest)
+taken text new n line takes = grind arith
 
 -- Version 1 --------------------------------------------------------------------------------------
 
@@ -43,9 +40,7 @@ counted : (text : Text) (new : Lines) (n : ℕ) (line : Text) → TakesLine (lin
 counted text new n line takes = sym takes.counted
 
 pub history_first : (text : Text) (new : Lines) (n : ℕ) (line : Text) → length text ≤ 1073741824 → TakesLine (lines_from 1 text) new n line → is_text line (codes "history 1") ≡ true → history_reading text ≡ entries_left line_as_entry new
-history_first text new n line short takes is =
-    history_reading-short text short
-    ∙ (ap history_of (taken text new n line takes) ∙ (right_first line new.lines new.rest is ∙ ap (λ (n : ℕ). entries_from line_as_entry n new.lines new.rest) (counted text new n line takes)))
+history_first text new n line short takes is = grind (arith, history_reading-short, taken, right_first, counted)
 
 front_lines : (text : Text) (new : Lines) (n : ℕ) (line : Text) (count : ℕ) → TakesLine (lines_from 1 text) new n line → first_lines (suc count) (cut_after 10 text) ≡ record { pieces = line ∷ take count new.lines; rest = [] }
 front_lines text new n line count takes = ap (first_lines (suc count)) (taken text new n line takes)
@@ -81,8 +76,7 @@ header_line line lines rest config is = ap (λ (config : Option Config). recorde
 
 record_lines : (text : Text) (new : Lines) (n : ℕ) (line : Text) (config : Option Config) → length text ≤ 2147483648 → TakesLine (lines_from 1 text) new n line → header_of (words line) ≡ config
     → recorded_reading text ≡ recorded_by config new.lines new.rest
-record_lines text new n line config short takes is =
-    recorded_reading-short text short ∙ (ap recorded_of (taken text new n line takes) ∙ header_line line new.lines new.rest config is)
+record_lines text new n line config short takes is = grind (arith, recorded_reading-short, taken, header_line)
 
 pub record_wrong : (text : Text) (new : Lines) (n : ℕ) (line : Text) → length text ≤ 2147483648 → TakesLine (lines_from 1 text) new n line → header_of (words line) ≡ None → recorded_reading text ≡ BadLine 1
 record_wrong text new n line short takes is = record_lines text new n line None short takes is

@@ -42,8 +42,7 @@ more_keys (key ∷ keys) zero below = omega arith
 more_keys (key ∷ keys) (suc i) below = more_keys keys i (omega arith)
 
 pub valued_ends : (all : Option (List Text)) (keys : List (Bor (List ℕ))) (i : ℕ) (found : List (Bor (List ℕ))) (value : Text) (line : List Text) → Valued all keys i found value line → i < length keys → line ≡ [] → all ≡ None
-valued_ends all keys i found value line done below none =
-    none_kept all (names_shown found) (values (names_shown (drop i keys)) (value ∷ line)) done.reads (rw none (one_value (names_shown (drop i keys)) value (more_keys keys i below)))
+valued_ends all keys i found value line done below none = grind (arith, none_kept, one_value, more_keys)
 
 key_wrong : (keys : List Text) (value key word : Text) (words : List Text) → is_text word key ≡ false → values (key ∷ keys) (value ∷ word ∷ words) ≡ None
 key_wrong keys value key word words is = rw is refl

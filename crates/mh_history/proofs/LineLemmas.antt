@@ -1,6 +1,6 @@
 -- Lines that are entries, one after another.
 use Rattle.std.proofs.Common.{◌≡◌, ℕ, suc, ◌+◌, Option, Some, None, IsSome, List, [], ◌∷◌, ◌++◌, length, take, ap, sym, refl, ◌∙◌, append_assoc, arith}
-use Rattle.std.proofs.{lemmas.List.{append-nil, length-append}, Math.Seq.take-append-add}
+use Rattle.std.proofs.{lemmas.List.length-append, Math.Seq.take-append-add}
 use Rattle.mh_model.specs.{Bytes.Text, Script.{Reading, BadLine, Means, reading_map, at_end}, HistoryTexts.entries_from}
 use Rattle.mh_text.specs.Pieces.{Lines, TakesLine}
 use Rattle.mh_history.specs.Beginnings.{entries_left, entry_before, HasEntry, TakesEntry}
@@ -15,17 +15,13 @@ bad_line : {X : Type 0} (read : Text → Option X) (n : ℕ) (line : Text) (line
 bad_line read n line lines rest is = rw (is, entries_from) refl
 
 pub line_taken : {X : Type 0} (read : Text → Option X) (old new : Lines) (n : ℕ) (line : Text) (entry : X) → TakesLine old new n line → read line ≡ Some entry → TakesEntry read old new entry
-line_taken read old new n line entry takes is =
-    record { line = line; takes = record { numbered = refl; taken = takes.taken; after = takes.after; counted = takes.counted }; reads = is }
+line_taken read old new n line entry takes is = grind arith
 
 pub entry_taken : {X : Type 0} (read : Text → Option X) (old new : Lines) (entry : X) → TakesEntry read old new entry → entries_left read old ≡ entry_before entry (entries_left read new)
-entry_taken read old new entry took =
-    ap (λ (lines : List Text). entries_from read old.number lines old.rest) took.takes.taken
-    ∙ (entry_line read old.number took.line new.lines old.rest entry took.reads ∙ rw (took.takes.counted, took.takes.after) refl)
+entry_taken read old new entry took = grind (arith, entry_line)
 
 pub line_bad : {X : Type 0} (read : Text → Option X) (old new : Lines) (n : ℕ) (line : Text) → TakesLine old new n line → read line ≡ None → entries_left read old ≡ BadLine n
-line_bad read old new n line takes is =
-    ap (λ (lines : List Text). entries_from read old.number lines old.rest) takes.taken ∙ (bad_line read old.number line new.lines old.rest is ∙ ap BadLine (sym takes.numbered))
+line_bad read old new n line takes is = grind (arith, bad_line)
 
 pub lines_end : {X : Type 0} (read : Text → Option X) (old : Lines) → old.lines ≡ [] → old.rest ≡ [] → entries_left read old ≡ Means []
 lines_end read old no_lines no_rest = rw (no_lines, no_rest) refl
@@ -74,9 +70,6 @@ walked_more read old mid new entries kept entry done took pushed = record {
 
 pub walked_whole : {X : Type 0} (read : Text → Option X) (old mid : Lines) (entries : List X) → Walked read old mid entries → entries_left read old ≡ with_entries entries (entries_left read mid)
 walked_whole read old mid entries done = rw (done.lines, ← done.after) (done.reads mid.lines mid.rest)
-
-pub walked_end : {X : Type 0} (read : Text → Option X) (old mid : Lines) (entries : List X) → Walked read old mid entries → entries_left read mid ≡ Means [] → entries_left read old ≡ Means entries
-walked_end read old mid entries done end = walked_whole read old mid entries done ∙ (ap (with_entries entries) end ∙ ap Means (append-nil entries))
 
 -- Memory -----------------------------------------------------------------------------------------
 

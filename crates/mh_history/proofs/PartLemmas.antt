@@ -71,10 +71,7 @@ shape_by : (ns : List ℕ) (references numbers : ℕ) → length ns ≡ 2 → wi
     → within (are_below (u32 ∷ u32 ∷ []) ns) (shape_made ns) ≡ Some (record { references = references; numbers = numbers })
 shape_by [] references numbers two a b = absurd (omega arith)
 shape_by (x ∷ []) references numbers two a b = absurd (omega arith)
-shape_by (x ∷ y ∷ []) references numbers two a b =
-    let below_x : nat_lt x u32 ≡ true = within_some (nat_lt x u32) x references a in
-    let below_y : nat_lt y u32 ≡ true = within_some (nat_lt y u32) y numbers b in
-    rw (below_x, below_y, small_same x references a, small_same y numbers b) refl
+shape_by (x ∷ y ∷ []) references numbers two a b = grind (arith, within_some, small_same)
 shape_by (x ∷ y ∷ z ∷ ns) references numbers two a b = absurd (omega arith)
 
 pub shape_two : (words : List Text) (ns : List ℕ) (references numbers : ℕ) → few_numbers words ≡ Some ns → length ns ≡ 2 → within (nat_lt (get_or ns 0 0) u32) (get_or ns 0 0) ≡ Some references
@@ -113,15 +110,11 @@ texts_ended words items i all done below none =
 
 pub texts_wrong : (words : List Text) (items : List (Bor (List ℕ))) (i : ℕ) (all : Bool) (word text : Text) (none : Bor (List ℕ)) (rest : List Text) → are_texts words (names_shown (drop i items)) ≡ all → i < length items
     → text ≡ (get_or items i none).now → words ≡ word ∷ rest → is_text word text ≡ false → false ≡ all
-texts_wrong words items i all word text none rest done below at is other =
-    sym (wrong_by word text rest (names_shown (drop (i + 1) items)) other) ∙ (ap (λ (texts : List Text). are_texts (word ∷ rest) texts) (sym (shown_next items i text none below at))
-    ∙ (ap (λ (ws : List Text). are_texts ws (names_shown (drop i items))) (sym is) ∙ done))
+texts_wrong words items i all word text none rest done below at is other = grind (arith, wrong_by, shown_next)
 
 pub texts_next : (words : List Text) (items : List (Bor (List ℕ))) (i : ℕ) (all : Bool) (word text : Text) (none : Bor (List ℕ)) (rest : List Text) → are_texts words (names_shown (drop i items)) ≡ all → i < length items
     → text ≡ (get_or items i none).now → words ≡ word ∷ rest → is_text word text ≡ true → are_texts rest (names_shown (drop (i + 1) items)) ≡ all
-texts_next words items i all word text none rest done below at is same =
-    sym (right_by word text rest (names_shown (drop (i + 1) items)) same) ∙ (ap (λ (texts : List Text). are_texts (word ∷ rest) texts) (sym (shown_next items i text none below at))
-    ∙ (ap (λ (ws : List Text). are_texts ws (names_shown (drop i items))) (sym is) ∙ done))
+texts_next words items i all word text none rest done below at is same = grind (arith, right_by, shown_next)
 
 -- Refusals ---------------------------------------------------------------------------------------
 

@@ -1,3 +1,2 @@
-pub mod Dumps
 pub mod Beginnings
-pub mod Halves
+pub mod Auxiliary

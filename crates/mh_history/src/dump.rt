@@ -3,7 +3,7 @@
 ghost use Rattle.std.specs.Prelude.{◌≡◌, ◌≢◌, ◌≤◌, ◌∷◌, [], List, length, nat_lt, Bool, true, false, Some, None, IfSome, IfNone, IfOk, OnErr, IsSome, is_some, option_map, option_and_then};
 ghost use Rattle.mh_model.specs.{Bytes.parts_at, declared.dump.DumpItem.DumpItem};
 ghost use Rattle.mh_model.specs.Replies.{placed_of, is_after, ascends, Ready, with_item, items_from, dump_of};
-ghost use Rattle.mh_history.specs.Dumps.{placed_numbers};
+ghost use Rattle.mh_history.specs.Auxiliary.{placed_numbers};
 
 use crate::parts::{flag_of, tagged};
 use mh_model::dump::{Dump, DumpItem};

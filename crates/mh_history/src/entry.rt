@@ -4,7 +4,7 @@ ghost use Rattle.std.specs.Prelude.{◌≡◌, ◌∷◌, ◌++◌, [], codes, t
 ghost use Rattle.mh_model.specs.{Bytes.{words, numbers}, declared.history.Entry.Entry};
 ghost use Rattle.mh_model.specs.declared.history.Version.TheVariants.{One};
 ghost use Rattle.mh_model.specs.HistoryTexts.{entry_by, entry_of, measured_of, measured_with};
-ghost use Rattle.mh_history.specs.Halves.{all_lack, IsAroundEquals};
+ghost use Rattle.mh_history.specs.Auxiliary.{all_lack, IsAroundEquals};
 
 use crate::event::event_of;
 use crate::reply::reply_of;

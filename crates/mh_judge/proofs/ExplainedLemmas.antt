@@ -1,7 +1,7 @@
 -- What is said of the entries of a text is said of the text.
-use Rattle.std.proofs.Common.{◌≡◌, ℕ, List, ap, sym, subst}
+use Rattle.std.proofs.Common.{◌≡◌, ℕ, List, sym, subst}
 use Rattle.mh_judge.specs.{declared.entry_fault.EntryFault.EntryFault, Faults.IsWrongAfter}
-use Rattle.mh_judge.specs.{Histories.{History, IsFaultIn, IsVerdictIn, under}, Following.IsJudgement}
+use Rattle.mh_judge.specs.{Histories.{History, IsFaultIn, under}, Auxiliary.IsJudgement}
 use Rattle.mh_judge.specs.Judgements.{HistoryJudgement, IfLegal, IsExplained, IsRefusal, verdict_of}
 use Rattle.mh_judge.specs.declared.judgement.Judgement.{Judgement}
 use Rattle.mh_model.specs.{declared.command.Event.Event, declared.config.Config.Config}
@@ -10,17 +10,7 @@ use Rattle.mh_model.specs.{declared.history.Version.Version, Bytes.Text, Machine
 use Rattle.mh_model.specs.Script.{Reading, BadLine, Means}
 use Rattle.mh_reasons.specs.HistoryReasons.{IsHistoryReason}
 
--- what a judgement says of the entries that are left it says of the text
-module _ {X : Type 0} (Lawful : Config → List X → Type 0) (Wrong : Config → List X → X → EntryFault → Type 0) (version : Version) (text : Text) (r : Reading (History X)) (config : Config) where
-  pub judged_verdict : (left : Reading (List X)) (found : HistoryJudgement) → r ≡ under config left → IsJudgement (IsRefusal version text) (Lawful config) (Wrong config) left found → IsVerdictIn Lawful r (verdict_of found)
-  judged_verdict (BadLine line) (Judgement.Refused of reason) is found = rw is (ap Refused found.0)
-  judged_verdict (BadLine line) (Judgement.Legal count) is found = absurd found
-  judged_verdict (BadLine line) (Judgement.FirstBad number fault) is found = absurd found
-  judged_verdict (Means entries) (Judgement.Refused of reason) is found = absurd found
-  judged_verdict (Means entries) (Judgement.Legal count) is found = rw is found
-  judged_verdict (Means entries) (Judgement.FirstBad number fault) is found = rw is found.0
-
--- and what is wrong with it
+-- what a judgement says of the entries that are left it says of the text, and what is wrong with one of them is wrong with the text
 module _ {X : Type 0} (Lawful : Config → List X → Type 0) (event_of : X → Event) (Wrong : Machine → X → EntryFault → Type 0) (version : Version) (text : Text) (Fault : ℕ → EntryFault → Type 0) (r : Reading (History X)) (config : Config) where
   pub judged_explained : (left : Reading (List X)) (found : HistoryJudgement) → r ≡ under config left → ((number : ℕ) (fault : EntryFault) → IsFaultIn event_of Wrong r number fault → Fault number fault)
       → IsJudgement (IsRefusal version text) (Lawful config) (IsWrongAfter config event_of Wrong) left found → IsExplained (IsHistoryReason version text) Fault found

@@ -1,15 +1,14 @@
 -- Entries that are followed as they are read.
-use Rattle.std.proofs.Common.{◌≡◌, ◌∙◌, ℕ, suc, ◌+◌, ◌-◌, Option, Some, None, List, [], ◌∷◌, ◌++◌, length, take, ap, sym, refl, subst, append_assoc, append-nil, length-append, arith}
+use Rattle.std.proofs.Common.{◌≡◌, ◌∙◌, ℕ, suc, ◌+◌, ◌-◌, Option, Some, None, List, [], ◌∷◌, ◌++◌, length, take, ap, sym, refl, subst, append_assoc, length-append, arith}
 use Rattle.std.proofs.lemmas.List.{length_push, take-append-le, take_at}
 use Rattle.mh_history.proofs.LineLemmas.{Walked, entry_taken, line_bad, taken_entry, walked_entry, walked_more, walked_start, walked_whole, with_entries}
 use Rattle.mh_history.specs.Beginnings.{HasEntry, TakesEntry, entries_left, entry_before}
 use Rattle.mh_model.specs.{Bytes.Text, History.IsFirstBadOf, HistoryTexts.entries_from}
 use Rattle.mh_model.specs.Script.{Reading, BadLine, Means, at_end, reading_map}
-use Rattle.mh_text.specs.{Pieces.{Lines, TakesLine}, TextErrors.Refuses, declared.text_error.TextError.TextError}
-use Rattle.mh_text.specs.declared.text_error.TextError.TheVariants.{Line, NoMemory}
+use Rattle.mh_text.specs.Pieces.{Lines, TakesLine}
 use Rattle.mh_judge.specs.{declared.bad_entry.BadEntry.BadEntry, declared.entry_fault.EntryFault.EntryFault}
-use Rattle.mh_judge.specs.{Faults.HasFault, Judgements.HistoryJudgement}
-use Rattle.mh_judge.specs.{Following.{AreRead, IsBadEntry, IsJudgement, whole}, declared.judgement.Judgement.Judgement}
+use Rattle.mh_judge.specs.{Faults.HasFault, Judgements.HistoryJudgement, Following.{AreRead, IsBadEntry, whole}}
+use Rattle.mh_judge.specs.Auxiliary.{IsJudgement}
 
 -- Lines ------------------------------------------------------------------------------------------
 
@@ -34,9 +33,6 @@ end_after : {X : Type 0} (entry : X) (more : List X) (n : ℕ) (rest : Text) →
 end_after entry more n [] = refl
 end_after entry more n (byte ∷ rest) = refl
 
-left_none : {X : Type 0} (read : Text → Option X) (left : Lines) → left.lines ≡ [] → entries_left read left ≡ at_end [] left.number left.rest
-left_none read left none = rw none refl
-
 -- lines were read
 pub record HasRead {X : Type 0} (read : Text → Option X) (old new : Lines) : Type 0 where
   pub entries : List X
@@ -47,14 +43,6 @@ read_none read old = record { entries = []; walked = walked_start read old }
 
 pub read_more : {X : Type 0} {read : Text → Option X} {old mid : Lines} (has : HasRead read old mid) (new : Lines) (entry : X) → TakesEntry read mid new entry → HasRead read old new
 read_more {read = read} {old = old} {mid = mid} has new entry took = record { entries = has.entries ++ entry ∷ []; walked = walked_more read old mid new has.entries (has.entries ++ entry ∷ []) entry has.walked took refl }
-
--- all lines were read
-pub are_read : {X : Type 0} (read : Text → Option X) (old mid : Lines) (entries : List X) → Walked read old mid entries → mid.lines ≡ [] → AreRead read old mid entries
-are_read {X} read old mid entries done none = record {
-  whole = walked_lines read old mid entries done ∙ (ap (with_entries entries) (left_none read (whole mid) none) ∙ ap Means (append-nil entries));
-  left = walked_whole read old mid entries done ∙ (ap (with_entries entries) (left_none read mid none) ∙ (end_with entries [] mid.number mid.rest ∙ ap (λ (all : List X). at_end all mid.number mid.rest) (append-nil entries)));
-  all = none;
-}
 
 -- an entry was read, and then all lines after it
 module _ {X : Type 0} (read : Text → Option X) (old mid : Lines) (entries : List X) (done : Walked read old mid entries) (next : Lines) (entry : X) (took : TakesEntry read mid next entry) where
@@ -67,15 +55,6 @@ module _ {X : Type 0} (read : Text → Option X) (old mid : Lines) (entries : Li
     all = others.all;
   }
 
-  pub refused_on : (error : TextError) → Refuses (entries_left read (whole next)) error → Refuses (entries_left read (whole old)) error
-  refused_on (Line line) bad =
-      walked_lines read old mid entries done ∙ ap (with_entries entries) (entry_taken read (whole mid) (whole next) entry (entry_whole read mid next entry took) ∙ ap (entry_before entry) bad)
-  refused_on NoMemory bad = tt
-
-pub refused_after : {X : Type 0} (read : Text → Option X) (old mid : Lines) (entries : List X) → Walked read old mid entries → (error : TextError) → Refuses (entries_left read (whole mid)) error → Refuses (entries_left read (whole old)) error
-refused_after read old mid entries done (Line line) bad = walked_lines read old mid entries done ∙ ap (with_entries entries) bad
-refused_after read old mid entries done NoMemory bad = tt
-
 -- Followers --------------------------------------------------------------------------------------
 
 -- lines were read, and their entries followed
@@ -84,9 +63,6 @@ pub record Following {X S : Type 0} (read : Text → Option X) (reading : S → 
   pub walked : Walked read old new entries
   pub follows : Follows entries state
   pub reads : reading state ≡ read
-
-pub following_none : {X S : Type 0} (reading : S → Text → Option X) (Follows : List X → S → Type 0) (old : Lines) (state : S) → Follows [] state → Following (reading state) reading Follows old old state
-following_none reading Follows old state none = record { entries = []; walked = walked_start (reading state) old; follows = none; reads = refl }
 
 module _ {X S : Type 0} {read : Text → Option X} {reading : S → Text → Option X} {Follows : List X → S → Type 0} {old mid : Lines} {state : S} (following : Following read reading Follows old mid state) where
   pub took_by : (next : Lines) (entry : X) → TakesEntry (reading state) mid next entry → TakesEntry read mid next entry
@@ -186,9 +162,3 @@ module _ {X : Type 0} (read : Text → Option X) (old last : Lines) (entries : L
 module _ {X : Type 0} (Refusal : ℕ → HistoryJudgement → Type 0) (Lawful : List X → Type 0) (Wrong : List X → X → EntryFault → Type 0) (r : Reading (List X)) where
   pub judged_refused : (line : ℕ) (found : HistoryJudgement) → r ≡ BadLine line → Refusal line found → IsJudgement Refusal Lawful Wrong r found
   judged_refused line found is refusal = rw is refusal
-
-  pub judged_legal : (entries : List X) (count : ℕ) → r ≡ Means entries → Lawful entries → count ≡ length entries → IsJudgement Refusal Lawful Wrong r (Judgement.Legal count)
-  judged_legal entries count is lawful long = rw is (lawful, long)
-
-  pub judged_bad : (entries : List X) (bad : BadEntry) → r ≡ Means entries → IsBadEntry Lawful Wrong entries bad → IsJudgement Refusal Lawful Wrong r (Judgement.FirstBad bad.number bad.fault)
-  judged_bad entries bad is wrong = rw is (wrong.first, wrong.fault)

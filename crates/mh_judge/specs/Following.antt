@@ -1,11 +1,10 @@
 -- Entries of a history that are followed one after another, up to the first bad one.
-use Rattle.std.specs.Prelude.{◌≡◌, ℕ, Option, MatchOption, List, [], length, take}
-use Rattle.mh_model.specs.{Bytes.Text, History.IsFirstBadOf, Script.{Reading, BadLine, Means, at_end}}
+use Rattle.std.specs.Prelude.{◌≡◌, Option, MatchOption, List, [], take}
+use Rattle.mh_model.specs.{Bytes.Text, History.IsFirstBadOf, Script.{Means, at_end}}
 use Rattle.mh_text.specs.Pieces.{Lines}
 use Rattle.mh_history.specs.Beginnings.{entries_left}
 use Rattle.mh_judge.specs.{declared.bad_entry.BadEntry.BadEntry, declared.entry_fault.EntryFault.EntryFault}
-use Rattle.mh_judge.specs.{declared.judgement.Judgement.TheVariants.{Legal, Refused, FirstBad}, Faults.HasFault}
-use Rattle.mh_judge.specs.Judgements.{HistoryJudgement}
+use Rattle.mh_judge.specs.Faults.{HasFault}
 
 -- the lines that are left, without what stands after the last that has an end
 abbrev pub whole : Lines → Lines
@@ -25,10 +24,3 @@ pub record IsBadEntry {X : Type 0} (Lawful : List X → Type 0) (Wrong : List X 
 -- what was found of entries: all were followed, or one is the first bad one, and those up to it were looked at
 abbrev pub IsFound : {X S : Type 0} → (List X → S → Type 0) → (List X → S → Type 0) → (List X → Type 0) → (List X → X → EntryFault → Type 0) → List X → S → Option BadEntry → Type 0
 IsFound Follows Looks Lawful Wrong entries state found = MatchOption found (Follows entries state) (λ bad. IsBadEntry Lawful Wrong entries bad × Looks (take bad.number entries) state)
-
--- what a judgement says of entries that are read: the reason of the bad line, or what is found of the entries
-abbrev pub IsJudgement : {X : Type 0} → (ℕ → HistoryJudgement → Type 0) → (List X → Type 0) → (List X → X → EntryFault → Type 0) → Reading (List X) → HistoryJudgement → Type 0
-IsJudgement Refusal Lawful Wrong (BadLine line) judgement = Refusal line judgement
-IsJudgement Refusal Lawful Wrong (Means entries) (Legal count) = Lawful entries × (count ≡ length entries)
-IsJudgement Refusal Lawful Wrong (Means entries) (Refused line reason) = ⊥
-IsJudgement Refusal Lawful Wrong (Means entries) (FirstBad number fault) = IsFirstBadOf Lawful entries number × HasFault Wrong entries number fault

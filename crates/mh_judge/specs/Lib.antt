@@ -9,3 +9,4 @@ pub mod Replaying
 pub mod ReplayRules
 pub mod TextRules
 pub mod PromisedRules
+pub mod Auxiliary

@@ -1,18 +1,14 @@
 -- The replies of a legal history are those of an outcome that keeps the promise.
 use Rattle.std.proofs.Common.{◌≡◌, ◌∙◌, ℕ, List, map, ap, refl}
-use Rattle.mh_model.specs.{declared.command.Event.Event, declared.config.Config.Config, declared.history.Entry.Entry}
+use Rattle.mh_model.specs.{declared.config.Config.Config, declared.history.Entry.Entry}
 use Rattle.mh_model.specs.{declared.history.Measured.Measured, declared.history.Verdict.TheVariants.{Legal, Refused}}
 use Rattle.mh_model.specs.{Bytes.Text, History.IsLegal}
-use Rattle.mh_model.specs.HistoryTexts.{IsAudited, IsChecked, IsLegalRecord, machine_record, measured_events}
-use Rattle.mh_model.specs.{Machine.{Machine, first_machine, machine_replies}, Script.{Reading, BadLine, Means}}
+use Rattle.mh_model.specs.HistoryTexts.{IsAudited, IsChecked, IsLegalRecord, measured_events}
+use Rattle.mh_model.specs.{Machine.{first_machine, machine_replies}, Script.{Reading, BadLine, Means}}
 use Rattle.mh_promise.specs.Promise.{RepliesArePromised}
 use Rattle.mh_judge.specs.Histories.{History, IsVerdictIn, own_reading, reading_under}
 use Rattle.mh_judge.specs.Promised.{IsPromisedHistory, IsPromisedRecord, IsPromisedUnder}
-use Rattle.mh_judge.specs.TextRules.{in_audited, in_checked}
-
--- the law that a record shows the machine's replies, which is proved with the laws of texts
-abbrev pub RecordsShowReplies : Type 0
-RecordsShowReplies = (machine : Machine) (events : List Event) → map (λ measured. measured.entry.reply) (machine_record machine events) ≡ machine_replies machine events
+use Rattle.mh_judge.specs.{TextRules.{in_audited, in_checked}, Auxiliary.RecordsShowReplies}
 
 -- the replies of a legal record are the machine's
 record_right : RecordsShowReplies → (config : Config) (entries : List Measured) → IsLegalRecord config entries → map (λ measured. measured.entry.reply) entries ≡ machine_replies (first_machine config) (measured_events entries)

@@ -20,7 +20,7 @@ ghost use Rattle.std.specs.Prelude.{◌≡◌, ℕ, [], IfOk, OnErr};
 ghost use Rattle.mh_model.specs.{HistoryTexts.IsChecked, Script.BadLine};
 ghost use Rattle.mh_reasons.specs.HistoryReasons.{IsRefusedAt, most_bytes};
 ghost use Rattle.mh_history.specs.Beginnings.{BeginsWithEntry, HasEntry, entries_left};
-ghost use Rattle.mh_judge.specs.{Following.IsJudgement, Judgements.{IsCheckExplained, IsRefusal, verdict_of}};
+ghost use Rattle.mh_judge.specs.{Auxiliary.IsJudgement, Judgements.{IsCheckExplained, IsRefusal, verdict_of}};
 ghost use Rattle.mh_judge.specs.{Judged.{IsAuditing, IsChecking, IsToldAs, IsVerdictLine}, Histories.IsExplainedAs};
 
 use crate::bad_entry::BadEntry;

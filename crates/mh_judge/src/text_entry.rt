@@ -18,7 +18,6 @@ ghost use Rattle.mh_model.specs.{Script.{Reading, BadLine}, declared.history.Ver
 ghost use Rattle.mh_promise.specs.Promise.{RepliesArePromised};
 ghost use Rattle.mh_reasons.specs.HistoryReasons.{IsRefusedAt, most_bytes};
 ghost use Rattle.mh_text_laws.proofs.run_histories.Records.{record_replies};
-ghost use Rattle.mh_text_laws.proofs.verdicts.SomeVerdict.{texts_audited, texts_checked};
 ghost use Rattle.mh_model.specs.Machine as model;
 
 use crate::entry_fault::{EntryFault, Units};
@@ -85,8 +84,6 @@ pub trait TextEntry: FromLine + JudgedEntry + Drop {
 
     ghost faulty: { (given : Self.Given) (text : Text) (number : ℕ) (fault : EntryFault) → IsFaultIn Self.event_of is_wrong (reading given text) number fault → is_fault given text number fault };
 
-    ghost some: { (given : Self.Given) (text : Text) → (verdict : Verdict) × judged given text verdict };
-
     ghost promises: { RepliesArePromised → (given : Self.Given) (text : Text) (count : ℕ) → judged given text (Legal count) → promised given text count };
 }
 
@@ -138,8 +135,6 @@ impl TextEntry for Entry {
     ghost refused = { checked_refused };
 
     ghost faulty = { checked_fault };
-
-    ghost some = { texts_checked };
 
     ghost promises = { checked_promised };
 }
@@ -206,8 +201,6 @@ impl TextEntry for Measured {
     ghost refused = { λ given. audited_refused };
 
     ghost faulty = { λ given. audited_fault };
-
-    ghost some = { λ given. texts_audited };
 
     ghost promises = { λ law given. audited_promised law record_replies };
 }

@@ -7,8 +7,8 @@ use Rattle.mh_model.proofs.TextLemmas.{text_is}
 use Rattle.mh_text.specs.{Pieces.{Lines, TakesLine, lines_from}, TextErrors.Refuses}
 use Rattle.mh_text.specs.declared.text_error.TextError.{TextError}
 use Rattle.mh_text.specs.declared.text_error.TextError.TheVariants.{Line, NoMemory}
-use Rattle.mh_judge_log.specs.declared.timed.Timed.{Timed}
-use Rattle.mh_judge_log.specs.Beginnings.{BeginsWithCommand, HasCommand, left_in, log_left, order_left}
+use Rattle.mh_judge_log.specs.{declared.timed.Timed.Timed, Beginnings.BeginsWithCommand}
+use Rattle.mh_judge_log.specs.Auxiliary.{HasCommand, left_in, log_left, order_left}
 use Rattle.mh_judge_log.specs.Logs.{log_from, ordered_of, ordered_reading, timed_of}
 use Rattle.mh_judge_log.proofs.PendingLemmas.{left_push}
 
@@ -101,9 +101,6 @@ line_command old new n line takes is = record { line = line; more = new.lines; f
 pub record HasLogged (old new : Lines) (slots : List (Option Timed)) : Type 0 where
   pub reads : log_left [] old ≡ log_left (left_in slots) new
   pub begins : ((new ≡ old) × (slots ≡ [])) ⊎ HasCommand old
-
-pub logged_none : (old : Lines) → HasLogged old old []
-logged_none old = record { reads = refl; begins = inl (refl, refl) }
 
 pub logged_begins : (old new : Lines) (slots : List (Option Timed)) → HasLogged old new slots → HasCommand new → HasCommand old
 logged_begins old new slots logged has = by logged.begins where

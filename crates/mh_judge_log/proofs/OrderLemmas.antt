@@ -1,10 +1,10 @@
 -- The lines of an order, each of which takes a command.
-use Rattle.std.proofs.Common.{◌≡◌, ◌≢◌, ◌∙◌, ℕ, suc, Option, Some, None, List, [], ◌∷◌, ◌++◌, ap, sym, refl, append_assoc, append-nil}
+use Rattle.std.proofs.Common.{◌≡◌, ◌≢◌, ◌∙◌, ℕ, suc, Option, Some, None, List, [], ◌∷◌, ◌++◌, ap, sym, refl, append_assoc}
 use Rattle.mh_model.specs.{Bytes.Text, HistoryTexts.session_of, Script.{Reading, BadLine, Means}}
 use Rattle.mh_text.specs.{Pieces.{Lines, TakesLine}, TextErrors.Refuses, declared.text_error.TextError.TextError}
 use Rattle.mh_text.specs.declared.text_error.TextError.TheVariants.{Line, NoMemory}
 use Rattle.mh_history.proofs.LineLemmas.{with_entries}
-use Rattle.mh_judge_log.specs.{declared.timed.Timed.Timed, Beginnings.{command_before, order_left}}
+use Rattle.mh_judge_log.specs.{declared.timed.Timed.Timed, Auxiliary.{command_before, order_left}}
 use Rattle.mh_judge_log.specs.Logs.{Taken, order_end, order_from, taken_by}
 
 -- One line ---------------------------------------------------------------------------------------
@@ -58,24 +58,11 @@ same_reading : (r : Reading (List Timed)) → r ≡ with_entries [] r
 same_reading (BadLine n) = refl
 same_reading (Means order) = refl
 
-pub taken_none : (all : List Timed) (old : Lines) → HasTaken all old all old []
-taken_none all old = record { reads = same_reading (order_left all old); some = λ some. some; begun = λ some. absurd (some refl) }
-
 one_more : (taken : List Timed) (timed : Timed) (r : Reading (List Timed)) → with_entries taken (command_before timed r) ≡ with_entries (taken ++ timed ∷ []) r
 one_more taken timed (BadLine n) = refl
 one_more taken timed (Means more) = ap Means (sym (append_assoc taken (timed ∷ []) more))
 
 module _ {all left : List Timed} {old mid : Lines} {taken : List Timed} (has : HasTaken all old left mid taken) where
-  pub taken_more : (others : List Timed) (new : Lines) (timed : Timed) → left ≢ [] → order_left left mid ≡ command_before timed (order_left others new) → HasTaken all old others new (taken ++ timed ∷ [])
-  taken_more others new timed some takes = record {
-    reads = has.reads ∙ (ap (with_entries taken) takes ∙ one_more taken timed (order_left others new));
-    some = λ _. has.some some;
-    begun = λ _. has.some some;
-  }
-
-  pub taken_end : order_left left mid ≡ Means [] → order_left all old ≡ Means taken
-  taken_end end = has.reads ∙ (ap (with_entries taken) end ∙ ap Means (append-nil taken))
-
   pub taken_refused : (error : TextError) → Refuses (order_left left mid) error → Refuses (order_left all old) error
   taken_refused (Line line) bad = has.reads ∙ ap (with_entries taken) bad
   taken_refused NoMemory bad = tt

@@ -2,8 +2,7 @@
 use Rattle.std.proofs.Common.{◌≡◌, ◌∙◌, ◌↔◌, ℕ, zero, suc, ◌<◌, ◌≤◌, Bool, true, false, not, IsTrue, Option, Some, None, IfSome, is_some, option_map, List, [], ◌∷◌, ◌++◌, length, get_or, set, ap, sym, refl, arith}
 use Rattle.std.proofs.{lemmas.Bool.false≢true, lemmas.List.get_or_default}
 use Rattle.std.specs.List.{list_all}
-use Rattle.mh_judge_log.specs.{declared.timed.Timed.Timed, Beginnings.{has_of, left_in}}
-use Rattle.mh_judge_log.specs.Logs.{Taken, is_of, take_first}
+use Rattle.mh_judge_log.specs.{declared.timed.Timed.Timed, Auxiliary.{has_of, left_in}, Logs.{Taken, is_of, take_first}}
 
 pub left_push : (slots : List (Option Timed)) (timed : Timed) → left_in (slots ++ Some timed ∷ []) ≡ left_in slots ++ timed ∷ []
 left_push [] timed = refl

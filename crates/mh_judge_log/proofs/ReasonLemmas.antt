@@ -9,8 +9,8 @@ use Rattle.mh_model.specs.{HistoryTexts.{Halves, entry_of, event_of, halves_at, 
 use Rattle.mh_model.specs.Script.{Reading, BadLine, Means, reading_map}
 use Rattle.mh_text.specs.Pieces.{Lines, TakesLine, lines_from}
 use Rattle.mh_text.proofs.PieceLemmas.{empty_left}
-use Rattle.mh_judge_log.specs.declared.timed.Timed.{Timed}
-use Rattle.mh_judge_log.specs.Beginnings.{HasTimes, begins_with_star, log_left, order_left}
+use Rattle.mh_judge_log.specs.{declared.timed.Timed.Timed, Beginnings.{HasTimes, begins_with_star}}
+use Rattle.mh_judge_log.specs.Auxiliary.{log_left, order_left}
 use Rattle.mh_judge_log.specs.Logs.{Taken, log_from, order_end, order_from, ordered_reading, taken_by, timed_of}
 use Rattle.mh_judge_log.specs.declared.reason.LogReason.{LogReason}
 use Rattle.mh_judge_log.specs.Reasons.{IsLaterLine, IsLineReason, IsLogReason, begins_order}
@@ -215,9 +215,6 @@ module _ (text : Text) (n : ℕ) (in_order : Bool) (left : Lines) (has : HasPass
 
   end_order : begins_order (drop 1 (cut_after 10 text).pieces) ≡ in_order
   end_order = ap (λ (ls : List Text). begins_order (drop 1 ls)) whole ∙ has.order
-
-  pub unended_reason : left.rest ≢ [] → IsLogReason text n LogReason.NoNewline
-  unended_reason some = (end_number, λ none. some (has.rest ∙ none))
 
   pub order_reason : left.rest ≡ [] → in_order ≡ true → IsLogReason text n LogReason.CommandsLeft
   order_reason nothing is = (record { numbered = end_number; whole = sym has.rest ∙ nothing }, end_order ∙ is)

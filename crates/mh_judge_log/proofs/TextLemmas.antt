@@ -9,8 +9,8 @@ use Rattle.mh_model.specs.Script.{BadLine, Means}
 use Rattle.mh_script.specs.declared.fault.ScriptFault.{ScriptFault}
 use Rattle.mh_judge_log.specs.{declared.reason.LogReason.LogReason, declared.timed.Timed.Timed}
 use Rattle.mh_judge_log.specs.{Beginnings.BeginsWithCommand, Logs.ordered_reading, Reasons.IsLogReason}
-use Rattle.mh_judge_log.specs.Judgements.{LogJudgement, IsLogExplained, IsLogFault, IsOrderExplained, verdict_of}
-use Rattle.mh_judge_log.specs.Orders.{IsLegalOrder, IsLogJudged, IsVerdictOn}
+use Rattle.mh_judge_log.specs.Judgements.{LogJudgement, IsLogExplained, IsLogFault, verdict_of}
+use Rattle.mh_judge_log.specs.{Auxiliary.IsOrderExplained, Orders.{IsLegalOrder, IsLogJudged, IsVerdictOn}}
 use Rattle.mh_judge_log.proofs.LogLemmas.{log_long}
 
 module _ (rules : Rules) (text : Text) where

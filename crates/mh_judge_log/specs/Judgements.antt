@@ -13,10 +13,6 @@ use Rattle.mh_judge_log.specs.{Logs.ordered_reading, Orders.IsLogJudged, Reasons
 abbrev pub LogJudgement : Type 0
 LogJudgement = Judgement LogReason OrderFault
 
--- what a judgement says of an order beside the verdict is true
-abbrev pub IsOrderExplained : Rules → List Timed → LogJudgement → Type 0
-IsOrderExplained rules order = IsExplained (λ line reason. ⊥) (IsOrderFault rules order)
-
 -- a fault of the entry with this number in the order of a text
 abbrev pub IsLogFault : Rules → Text → ℕ → OrderFault → Type 0
 IsLogFault rules text number fault = (order : List Timed) × (ordered_reading text ≡ Means order) × IsOrderFault rules order number fault

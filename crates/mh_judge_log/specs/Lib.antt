@@ -7,3 +7,4 @@ pub mod Reasons
 pub mod Judgements
 pub mod Linearizations
 pub mod Laws
+pub mod Auxiliary

@@ -5,8 +5,8 @@
 ghost use Rattle.std.specs.Prelude.{◌≢◌, ◌≤◌, [], length, take, IfOk, IfSome, IfNone, OnErr};
 ghost use Rattle.mh_judge.specs.Following.{IsBadEntry};
 ghost use Rattle.mh_judge_sessions.specs.Faults.{IsUnseenAfter};
-ghost use Rattle.mh_judge_log.specs.{Judgements.{IsOrderExplained, verdict_of}, Orders.{IsLegalOrder, entries_of}};
-ghost use Rattle.mh_judge_log.specs.Times.{KeepsTime};
+ghost use Rattle.mh_judge_log.specs.{Auxiliary.IsOrderExplained, Judgements.verdict_of};
+ghost use Rattle.mh_judge_log.specs.{Orders.{IsLegalOrder, entries_of}, Times.KeepsTime};
 ghost use Rattle.mh_model.specs.{declared.config.Rules.Rules, HistoryTexts.IsJudged, Sessions.IsLegalForSessions};
 
 use crate::fault::OrderFault;

@@ -3,9 +3,8 @@
 //! A text is one with these commands in this order exactly when the definition says so. Otherwise its first bad line is
 //! named. Memory is refused only for a text that begins with a command.
 ghost use Rattle.std.specs.Prelude.{◌≡◌, ◌≢◌, ◌<◌, List, [], ◌∷◌, ◌++◌, length, IfOk, IfErr, IfSome, IfNone, IsErrOf};
-ghost use Rattle.mh_judge_log.specs.declared.timed.Timed.{Timed};
-ghost use Rattle.mh_judge_log.specs.Beginnings.{BeginsWithCommand, HasCommand, left_in, log_left, order_left};
-ghost use Rattle.mh_judge_log.specs.Logs.{ordered_reading};
+ghost use Rattle.mh_judge_log.specs.{declared.timed.Timed.Timed, Beginnings.BeginsWithCommand};
+ghost use Rattle.mh_judge_log.specs.{Auxiliary.{HasCommand, left_in, log_left, order_left}, Logs.ordered_reading};
 ghost use Rattle.mh_model.specs.Script.{BadLine, Means};
 ghost use Rattle.mh_text.specs.TextErrors.{Refuses};
 

@@ -1,6 +1,6 @@
 //! The order of a log's commands. Each line names a session, whose first command that is left comes next.
 ghost use Rattle.std.specs.Prelude.{◌≡◌, ◌≢◌, ◌<◌, [], length, IfOk, IfErr, IfSome, IfNone, IsErrOf};
-ghost use Rattle.mh_judge_log.specs.{Beginnings.{command_before, order_left}, Logs.taken_by};
+ghost use Rattle.mh_judge_log.specs.{Auxiliary.{command_before, order_left}, Logs.taken_by};
 ghost use Rattle.mh_model.specs.Script.{BadLine, Means};
 ghost use Rattle.mh_text.specs.TextErrors.{Refuses};
 

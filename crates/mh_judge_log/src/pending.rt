@@ -5,7 +5,7 @@
 //! for each session.
 ghost use Rattle.std.specs.Prelude.{◌≡◌, ◌≤◌, ◌<◌, ◌↔◌, ℕ, [], get_or, length, Some, None, false, true, IfSome, IfNone, IsTrue, is_some, not};
 ghost use Rattle.std.specs.List.{list_all};
-ghost use Rattle.mh_judge_log.specs.{Beginnings.{has_of, left_in}, Logs.take_first};
+ghost use Rattle.mh_judge_log.specs.{Auxiliary.{has_of, left_in}, Logs.take_first};
 
 use crate::timed::Timed;
 use mh_model::limits::SESSIONS;
@@ -54,7 +54,7 @@ pub(crate) struct Pending {
 
 impl Model for Pending {
     ghost use Rattle.std.specs.Prelude.{◌≡◌, ◌<◌, ℕ, List, get_or, None, false};
-    ghost use Rattle.mh_judge_log.specs.{Beginnings.{has_of, left_in}, declared.timed.Timed.Timed};
+    ghost use Rattle.mh_judge_log.specs.{Auxiliary.{has_of, left_in}, declared.timed.Timed.Timed};
 
     ghost Value = { List Timed };
 

@@ -8,7 +8,7 @@ use Rattle.mh_model.specs.Sessions.{IsLegalForSessions, IsSeen, MayLackRoom, lac
 use Rattle.mh_model.specs.Snapshot.{is_heap_full, world_beside_event}
 use Rattle.mh_model.specs.World.{Answer, IsNew, Performs, World, effect, first_world, heap_step, never_full, refusal, sight_of, unless_refused, world_step}
 use Rattle.mh_run_laws.proofs.worlds.FullHeaps.{world_step-never_full}
-use Rattle.mh_judge_sessions.specs.Watching.{HasFollowed, IsFollowed, MakesObject}
+use Rattle.mh_judge_sessions.specs.{Watching.{HasFollowed, MakesObject}, Auxiliary.IsFollowed}
 use Rattle.mh_judge_sessions.proofs.RulesLemmas.{beside-config, rules_alone}
 use Rattle.mh_judge_sessions.proofs.SeenLemmas.{after_more, lacks_full, seen_at, seen_more, world_after}
 

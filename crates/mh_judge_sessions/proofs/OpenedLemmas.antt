@@ -17,9 +17,9 @@ use Rattle.mh_judge.specs.{Following.{AreRead, IsBadEntry, IsFound, whole}, Judg
 use Rattle.mh_judge.specs.declared.judgement.Judgement.{Judgement}
 use Rattle.mh_text_laws.proofs.beginnings.WholeLines.{pieces_free, text_is_lines}
 use Rattle.mh_text_laws.proofs.round_trips.HistoryRoundTrips.{cut-text}
-use Rattle.mh_judge_sessions.specs.Full.{lawful_by, tally_of, wrong_by}
-use Rattle.mh_judge_sessions.specs.Texts.{IsRefusedWith, IsSeenExplained, IsSessionsFound}
-use Rattle.mh_judge_sessions.specs.{Watching.{HasWatched, IsOpened, Watched, seen_line}, WatchRules.watched_legal}
+use Rattle.mh_judge_sessions.specs.{Full.{lawful_by, tally_of, wrong_by}, Auxiliary.{IsRefusedWith, IsOpened}}
+use Rattle.mh_judge_sessions.specs.{Texts.{IsSeenExplained, IsSessionsFound}, Watching.{HasWatched, Watched, seen_line}}
+use Rattle.mh_judge_sessions.specs.WatchRules.{watched_legal}
 use Rattle.mh_judge_sessions.proofs.TextLemmas.{reading_one, reading_two, seen_long, text_bad, text_cut, text_whole}
 
 -- Lines ------------------------------------------------------------------------------------------

@@ -11,8 +11,8 @@ use Rattle.mh_model.specs.World.{Answer, World, births, first_world, world_step}
 use Rattle.mh_judge_sessions.specs.declared.tally.EntryCounts.{EntryCounts}
 use Rattle.mh_judge_sessions.specs.Faults.{IsUnseen, IsUnseenAfter, IsUnseenReply}
 use Rattle.mh_judge_sessions.specs.{Full.{is_full, lawful_by, tally_of, wrong_by}, Laws.world_under}
-use Rattle.mh_judge_sessions.specs.Watching.{HasFollowed, HasWatched, IsFollowed, IsWatched, IsWatchedFault, Watched}
-use Rattle.mh_judge_sessions.specs.WatchRules.{watched_legal}
+use Rattle.mh_judge_sessions.specs.Watching.{HasFollowed, HasWatched, Watched}
+use Rattle.mh_judge_sessions.specs.{Auxiliary.{IsFollowed, IsWatched, IsWatchedFault}, WatchRules.watched_legal}
 use Rattle.mh_judge_sessions.proofs.FullLemmas.{IsFirstFull, full_is_bad, other_reply}
 use Rattle.mh_judge_sessions.proofs.JudgeLemmas.{followed_more, unlawful_more}
 use Rattle.mh_judge_sessions.proofs.{RulesLemmas.{beside-config, beside-under, rules_alone}, SeenLemmas.world_after}

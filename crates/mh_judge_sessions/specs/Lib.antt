@@ -4,3 +4,4 @@ pub mod Laws
 pub mod Texts
 pub mod Watching
 pub mod WatchRules
+pub mod Auxiliary

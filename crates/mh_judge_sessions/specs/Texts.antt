@@ -3,8 +3,8 @@ use Rattle.std.specs.Prelude.{◌≡◌, ◌⊎◌, ℕ, Bool, if◌then◌else�
 use Rattle.mh_model.specs.{declared.config.Rules.Rules, declared.history.Entry.Entry, declared.history.Verdict.Verdict}
 use Rattle.mh_model.specs.declared.history.Verdict.TheVariants.{Refused, Legal, FirstBad}
 use Rattle.mh_model.specs.{declared.history.Version.Version, declared.history.Version.TheVariants.{One, Two}}
-use Rattle.mh_model.specs.{Bytes.{Text, cut_after}, History.IsFirstBadOf, HistoryTexts.IsJudged, Script.BadLine}
-use Rattle.mh_model.specs.Sessions.{SeenText, Whole, CutOff, Bad, entries_reading, is_of_version_one, rules_or, seen_text}
+use Rattle.mh_model.specs.{Bytes.{Text, cut_after}, History.IsFirstBadOf, HistoryTexts.IsJudged}
+use Rattle.mh_model.specs.Sessions.{SeenText, Whole, CutOff, Bad, is_of_version_one, rules_or, seen_text}
 use Rattle.mh_reasons.specs.{declared.history_reason.HistoryReason.HistoryReason, HistoryReasons.IsHistoryReason}
 use Rattle.mh_history.specs.Beginnings.{BeginsWithEntry, BeginsWithMeasured}
 use Rattle.mh_judge.specs.{declared.entry_fault.EntryFault.EntryFault, Faults.HasFault}
@@ -25,11 +25,6 @@ version_of text = if is_of_version_one (cut_after 10 text) then One else Two
 -- what a reason says of a text that is refused as a history of the version of its first line; of one that is too long, of either version
 abbrev pub IsReasonOf : Text → ℕ → HistoryReason → Type 0
 IsReasonOf text line reason = (version : Version) × ((line ≡ 0) ⊎ (version ≡ version_of text)) × IsHistoryReason version text line reason
-
--- a text is refused with this line, and wasn't cut off
-pub record IsRefusedWith (text : Text) (line : ℕ) : Type 0 where
-  pub reading : entries_reading text ≡ BadLine line
-  pub seen : seen_text text ≡ Bad line
 
 -- Texts ------------------------------------------------------------------------------------------
 

@@ -18,8 +18,8 @@ ghost use Rattle.mh_model.specs.{declared.config.Rules.Rules, declared.history.V
 ghost use Rattle.mh_model.specs.{Bytes.cut_after, Script.BadLine};
 ghost use Rattle.mh_model.specs.Sessions.{entries_reading, is_of_version_one, rules_named, rules_or};
 ghost use Rattle.mh_judge.specs.{Judgements.verdict_of, Judged.IsVerdictLine};
-ghost use Rattle.mh_judge_sessions.specs.Texts.{BeginsWithEither, IsRefusedWith, IsSeenExplained, IsSeenThroughBy, IsSeenTold, IsSessionsFound, IsSessionsJudging, found_verdict, version_of};
-ghost use Rattle.mh_judge_sessions.specs.Watching.{IsOpened};
+ghost use Rattle.mh_judge_sessions.specs.Texts.{BeginsWithEither, IsSeenExplained, IsSeenThroughBy, IsSeenTold, IsSessionsFound, IsSessionsJudging, found_verdict, version_of};
+ghost use Rattle.mh_judge_sessions.specs.Auxiliary.{IsRefusedWith, IsOpened};
 
 use crate::sessions_judgement::SessionsJudgement;
 use crate::watch::Watch;

@@ -13,8 +13,8 @@ ghost use Rattle.mh_model.specs.{declared.birth.TheConstants.LIFE, declared.conf
 ghost use Rattle.mh_model.specs.{declared.reply.Reply.TheVariants.Done, Limits.most_entries};
 ghost use Rattle.mh_model.specs.{Sessions.{MayLackRoom, lacks_room}, World.{IsNew, births, first_world, world_step}};
 ghost use Rattle.mh_judge_sessions.specs.{Faults.IsUnseen, Full.{lawful_by, tally_of, wrong_by}};
-ghost use Rattle.mh_judge_sessions.specs.WatchRules.{watched_legal};
-ghost use Rattle.mh_judge_sessions.specs.Watching.{HasWatched, IsFollowed, IsWatched, MakesObject, full_fault, seen_line};
+ghost use Rattle.mh_judge_sessions.specs.{WatchRules.watched_legal, Watching.{HasWatched, MakesObject, seen_line}};
+ghost use Rattle.mh_judge_sessions.specs.Auxiliary.{IsFollowed, IsWatched, full_fault};
 
 use crate::tally::{EntryCounts, is_full};
 use mh_heap::perform::perform;

@@ -19,12 +19,6 @@ pub record IsOnCourse (made : ℕ) (old new : Collector) : Type 0 where
   pub is_asked : new.is_asked ≡ old.is_asked
   pub quanta : new.quanta ≡ old.quanta
 
--- a new object whose parts are made, and which its slot names
-pub record IsBorn (heap : HeapState) (who slot references numbers : ℕ) : Type 0 where
-  pub made : Made
-  pub group : new_group heap references numbers ≡ Some made
-  pub state : (mutator_step heap who (Command.New slot references numbers)).state ≡ with_born heap (own_slot who slot) made
-
 -- A command of a session leaves phase, cursor, cycle number, asking and quanta as they were. It keeps the number of pages, their slots, and blocks
 -- within the limits
 abbrev pub CommandKeepsTheCourse : Type 0

@@ -8,3 +8,4 @@ pub mod Snapshots
 pub mod Barriers
 pub mod Fields
 pub mod Forwarders
+pub mod Auxiliary

@@ -9,8 +9,9 @@ use Rattle.mh_script.specs.{declared.end.LineRefusal.LineRefusal, declared.fault
 use Rattle.mh_script.specs.declared.fault.ScriptFault.TheVariants.{Read, Write, NoMemory}
 use Rattle.mh_script.specs.{declared.fault.WriteError.WriteError, Texts.IsWriteFault}
 use Rattle.mh_live.specs.declared.feed.Feed.{Feed}
-use Rattle.mh_live.specs.Feeding.{AnswersAll, AnswersFront, AnswersSome, AnswersWhole, BeginsAnswer, HasAnswered, IsFed, MayBegin, MayEndWith, TakesTurn, TurnsPartly, WritesPrefix}
-use Rattle.mh_live.specs.Heard.{AreHeard, Ended, IsHeard, IsLiveHeard, HeardRefusal, IsWhy, is_configured, refusal_of, unended_refusal}
+use Rattle.mh_live.specs.Feeding.{AnswersAll, AnswersFront, AnswersSome, AnswersWhole, BeginsAnswer, MayEndWith}
+use Rattle.mh_live.specs.Auxiliary.{HasAnswered, IsFed, MayBegin, TakesTurn, TurnsPartly, WritesPrefix, HeardRefusal, refusal_of}
+use Rattle.mh_live.specs.Heard.{AreHeard, Ended, IsHeard, IsLiveHeard, IsWhy, is_configured, unended_refusal}
 use Rattle.mh_live.proofs.CutLemmas.{EndsNoLine, cut_line, cut_rest, front_line, front_of, line_cut}
 use Rattle.mh_live.proofs.TurnLemmas.{are_turns, heard_more, heard_why, one_more}
 

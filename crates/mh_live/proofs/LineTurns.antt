@@ -13,8 +13,8 @@ use Rattle.mh_model.specs.Script.{Line, Blank, Calls, Asks, Wrong, asks, calls, 
 use Rattle.mh_model.specs.Live.{Live, Grows, IsTurn, Runs, Taken, Turn, Waits, event_turn, makes_object, needs_memory, line_turn, turn, world_turn, Starved as starved}
 use Rattle.mh_machine.specs.{Running.{Running, Does, MayAskForMemory, first_running}, declared.machine.Stop.Stop}
 use Rattle.mh_machine.specs.declared.machine.Stop.TheVariants.{HistoryFull, NoMemory}
-use Rattle.mh_live.specs.Answers.{Done, Full, FullWorld, Grew, IsAnsweredOrNotDone, IsAnsweredOrNotGrown, Starved, StarvedWorld, full_line, starved_line, uncollected_line}
-use Rattle.mh_live.specs.{Worlds.Grown, Heard.is_configured}
+use Rattle.mh_live.specs.Auxiliary.{Done, Full, FullWorld, Grew, Starved, StarvedWorld, IsAnsweredOrNotDone, IsAnsweredOrNotGrown, uncollected_line}
+use Rattle.mh_live.specs.{Answers.{full_line, starved_line}, Worlds.Grown, Heard.is_configured}
 use Rattle.mh_reasons.specs.Reasons.{IsWrong}
 
 -- a turn, in other words

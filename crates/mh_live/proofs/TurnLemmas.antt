@@ -5,7 +5,8 @@ use Rattle.std.specs.Option.{option_to_list}
 use Rattle.mh_model.specs.{Bytes.Text, Live.{Live, Turn, IsTurn, AreTurns}}
 use Rattle.mh_reasons.specs.declared.reason.LineReason.{LineReason}
 use Rattle.mh_script.specs.declared.end.LineRefusal.{LineRefusal}
-use Rattle.mh_live.specs.Heard.{AreHeard, Ended, IsHeard, HeardRefusal, IsWhy, Turned, is_configured, refusal_of}
+use Rattle.mh_live.specs.Heard.{AreHeard, Ended, IsHeard, IsWhy, Turned, is_configured}
+use Rattle.mh_live.specs.Auxiliary.{HeardRefusal, refusal_of}
 use Rattle.mh_model.specs.Live as model
 
 -- what is heard of lines in turn are turns

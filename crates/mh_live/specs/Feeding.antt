@@ -3,38 +3,15 @@ use Rattle.std.specs.Prelude.{◌≡◌, ℕ, suc, Option, List, [], ◌∷◌, 
 use Rattle.std.specs.Io.KnownBytes.{Appends, Consumes, IsAtEnd}
 use Rattle.mh_model.specs.{Bytes.{Text, cut_after}, Live.{Live, Turn, Waits, IsTurn, IsLive, unended_text}}
 use Rattle.mh_text.specs.Devices.{Device, Fails, GivesSome, Works}
-use Rattle.mh_live.specs.{declared.feed.Feed.Feed, Heard.{AreHeard, IsHeard, IsLiveHeard}, Promised.ArePromisedAnswers}
+use Rattle.mh_live.specs.{Heard.{AreHeard, IsLiveHeard}, Promised.ArePromisedAnswers}
 use Rattle.mh_script.specs.declared.{end.LineRefusal.LineRefusal, fault.ScriptFault.ScriptFault}
-use Rattle.mh_script.specs.declared.{fault.ScriptFault.TheVariants.{Read, Write, NoMemory}, fault.WriteError.WriteError}
-
--- the whole lines of a text were answered and the refused ones told, and what follows the last of them is kept. `opened` is where the run stood before the first line
-pub record HasAnswered (opened : Live) (Hears : List LineRefusal → Type 0) (text : Text) (old new : Option Text) (number : ℕ) (live : Live) (begun : Text) : Type 0 where
-  pub answers : Text
-  pub refusals : List LineRefusal
-  pub turns : AreHeard 1 opened (cut_after 10 text).pieces refusals answers live
-  pub numbered : number ≡ suc (length (cut_after 10 text).pieces)
-  pub kept : (cut_after 10 text).rest ≡ begun
-  pub wrote : Appends old new answers
-  pub heard : Hears refusals
-
--- a feed has answered the whole lines of a text, told the refused ones, and kept what follows the last of them
-abbrev pub IsFed : Live → (List LineRefusal → Type 0) → Text → Option Text → Option Text → Feed → Type 0
-IsFed opened Hears text first new feed = HasAnswered opened Hears text first new feed.number feed.live feed.begun.items
+use Rattle.mh_script.specs.declared.fault.ScriptFault.TheVariants.{Read, Write, NoMemory}
 
 -- Faults -----------------------------------------------------------------------------------------
-
--- what may have been written of an answer that isn't whole: nothing, unless the sink failed
-abbrev pub MayBegin : WriteError → Text → Type 0
-MayBegin WriteError.Device begun = Unit {0}
-MayBegin WriteError.NoMemory begun = begun ≡ []
 
 abbrev pub MayEndWith : ScriptFault → Text → Type 0
 MayEndWith Write begun = Unit {0}
 MayEndWith fault begun = begun ≡ []
-
--- of a text a prefix was written before this error
-abbrev pub WritesPrefix : Text → Option Text → Option Text → WriteError → Type 0
-WritesPrefix text old new error = (begun left : Text) × (begun ++ left ≡ text) × Appends old new begun × MayBegin error begun
 
 -- a prefix of what the first of these lines, line n, may be answered; if there is none, of the answer to a last line without its end
 abbrev pub BeginsAnswer : ℕ → Live → List Text → Text → Text → Type 0
@@ -55,26 +32,6 @@ pub record AnswersSome (opened : Live) (Hears : List LineRefusal → Type 0) (Ma
   pub may : May begun
   pub wrote : Appends old new (answers ++ begun)
   pub heard : Hears refusals
-
--- Turns ------------------------------------------------------------------------------------------
-
--- the line that has begun was answered, and told if it is refused
-pub record TakesTurn (Told : Option LineRefusal → Type 0) (old new : Feed) (written written' : Option Text) : Type 0 where
-  pub turn : Turn
-  pub is : IsTurn old.number old.live old.begun.items turn
-  pub heard : Option LineRefusal
-  pub why : IsHeard old.number old.live old.begun.items heard
-  pub told : Told heard
-  pub live : new.live ≡ turn.live
-  pub number : new.number ≡ suc old.number
-  pub begun : new.begun.items ≡ []
-  pub wrote : Appends written written' turn.text
-
--- a prefix of its answer was written before this error
-pub record TurnsPartly (old : Feed) (written written' : Option Text) (error : WriteError) : Type 0 where
-  pub turn : Turn
-  pub is : IsTurn old.number old.live old.begun.items turn
-  pub wrote : WritesPrefix turn.text written written' error
 
 -- Runs -------------------------------------------------------------------------------------------
 

@@ -44,15 +44,3 @@ pub record IsLiveHeard (opened : Live) (text written : Text) (refusals : List Li
   pub turns : AreHeard 1 opened (cut_after 10 text).pieces heard answers after
   pub whole : written ≡ answers ++ unended_text (suc (length (cut_after 10 text).pieces)) (cut_after 10 text).rest
   pub all : refusals ≡ heard ++ option_to_list (unended_refusal (suc (length (cut_after 10 text).pieces)) (cut_after 10 text).rest)
-
--- Listeners --------------------------------------------------------------------------------------
-
--- the refusal of line n for a reason, if there is one
-abbrev pub refusal_of : ℕ → Option LineReason → Option LineRefusal
-refusal_of n None = None
-refusal_of n (Some reason) = Some (record { line = n; reason = Line reason })
-
--- by what it hears, a listener was told of one refusal, or of none
-abbrev pub HeardRefusal : {X : Type 0} → (X → List LineRefusal → X → Type 0) → X → Option LineRefusal → X → Type 0
-HeardRefusal hears old None new = new ≡ old
-HeardRefusal hears old (Some refusal) new = hears old (refusal ∷ []) new

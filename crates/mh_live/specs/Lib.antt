@@ -4,3 +4,5 @@ pub mod Heard
 pub mod Laws
 pub mod Promised
 pub mod Worlds
+pub mod AuxiliaryViews
+pub mod Auxiliary

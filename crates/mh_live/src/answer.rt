@@ -6,7 +6,8 @@
 //! file alone say that it is refused only to an event that may ask for it (`MayAskForMemory` of `mh_machine`).
 ghost use Rattle.std.specs.{Prelude.{◌≡◌, [], ◌++◌, IfOk, OnOk}, String.string_bytes};
 ghost use Rattle.mh_model.specs.{Bytes.line_text, Machine.dump_pages, Replies.{bad_line_text, reply_text}};
-ghost use Rattle.mh_live.specs.Answers.{IsAnsweredOrNotDone, IsAnsweredOrNotGrown, full_line, starved_line, uncollected_line};
+ghost use Rattle.mh_live.specs.Auxiliary.{IsAnsweredOrNotDone, IsAnsweredOrNotGrown, uncollected_line};
+ghost use Rattle.mh_live.specs.Answers.{full_line, starved_line};
 ghost use Rattle.mh_machine.specs.declared.machine.Stop.{Stop};
 ghost use Rattle.mh_model.specs.declared.command.Control.TheVariants as control;
 ghost use Rattle.mh_model.specs.declared.command.Event.TheVariants as event;

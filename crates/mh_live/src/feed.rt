@@ -19,8 +19,9 @@ ghost use Rattle.std.specs.Prelude.{◌≡◌, ◌<◌, ◌≤◌, ◌++◌, [],
 ghost use Rattle.std.specs.Io.KnownBytes.{Appends};
 ghost use Rattle.mh_model.specs.{Bytes.Text, Live.{Waits, unended_text}};
 ghost use Rattle.mh_text.specs.Devices.{Fails, GivesSome, Works};
-ghost use Rattle.mh_live.specs.Feeding.{AnswersAll, AnswersFront, AnswersSome, AnswersWhole, Blames, IsFed, KeepsLivePromise, MayBegin, TakesTurn, TurnsPartly, WritesPrefix};
-ghost use Rattle.mh_live.specs.Heard.{HeardRefusal, refusal_of, unended_refusal};
+ghost use Rattle.mh_live.specs.Feeding.{AnswersAll, AnswersFront, AnswersSome, AnswersWhole, Blames, KeepsLivePromise};
+ghost use Rattle.mh_live.specs.Auxiliary.{IsFed, MayBegin, TakesTurn, TurnsPartly, WritesPrefix, HeardRefusal, refusal_of};
+ghost use Rattle.mh_live.specs.Heard.{unended_refusal};
 ghost use Rattle.mh_model.specs.Live as model;
 
 use crate::answer::refused;

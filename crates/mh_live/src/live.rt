@@ -10,7 +10,7 @@
 //! for memory at all is said by private contracts alone (`MayAskForMemory` of `mh_machine`).
 ghost use Rattle.std.specs.{Prelude.{◌≡◌, [], true, false, IfOk, OnOk}, String.string_bytes};
 ghost use Rattle.mh_model.specs.{Script.{is_blank, line_of}, Live.{Waits, IsTurn}};
-ghost use Rattle.mh_live.specs.{Answers.{IsOfRules, grows_of, runs_of}, Heard.{IsWhy, is_configured}};
+ghost use Rattle.mh_live.specs.{Answers.IsOfRules, AuxiliaryViews.{grows_of, runs_of}, Heard.{IsWhy, is_configured}};
 
 use crate::answer::{answer, answer_in_world, refused, starved, uncollected};
 use crate::growing::GrowingWorld;
@@ -126,7 +126,7 @@ pub struct Live {
 }
 
 impl Model for Live {
-    ghost use Rattle.mh_live.specs.Answers.{live_of};
+    ghost use Rattle.mh_live.specs.AuxiliaryViews.{live_of};
     ghost use Rattle.mh_model.specs.Live.{Live};
 
     ghost Value = { Live };

@@ -1,5 +1,5 @@
 -- The lock of the model over the call of a seat that took the value at home.
-use Rattle.std.proofs.Common.{arith, ◌≡◌, ℕ, ◌<◌, ◌==◌, if◌then◌else◌, List, [], ◌∷◌, ◌++◌, length, get_or, set, Option, Some, None, option_map, Result, Ok, Err, IfOk, OnErr, Bool, refl, sym, ap, ◌∙◌, subst, length-set, get_or-set_same, eq-eqb, append-nil, ⊎_elim}
+use Rattle.std.proofs.Common.{arith, ◌≡◌, ℕ, ◌<◌, if◌then◌else◌, List, [], ◌∷◌, ◌++◌, length, get_or, set, Option, Some, None, option_map, Result, Ok, Err, IfOk, OnErr, Bool, refl, sym, ap, ◌∙◌, subst, length-set, get_or-set_same, eq-eqb, append-nil, ⊎_elim}
 use Rattle.std.proofs.{lemmas.List.get_or-set_other, lemmas.List.Elements.filter-append}
 use Rattle.std.specs.Option.{option_to_list}
 use Rattle.mh_model.specs.History.{LockState, owned_by, with_take, with_give, IsAtHome, IsOut}
@@ -18,8 +18,7 @@ entry-owned owner seat (Err refusal) entry owned e is = cc
 -- what a seat owns of a history that gets its entry, if there is one
 pub owned-more : {E : Type 0} (owner : E → ℕ) (seat : ℕ) (history : List E) (entry : Option E) → ((e : E) → entry ≡ Some e → owner e ≡ seat) → owned_by owner seat (history ++ option_to_list entry) ≡ owned_by owner seat history ++ option_to_list entry
 owned-more owner seat history None owned = ap (owned_by owner seat) (append-nil history) ∙ sym (append-nil (owned_by owner seat history))
-owned-more owner seat history (Some entry) owned =
-    filter-append (λ e. owner e == seat) history (entry ∷ []) ∙ ap (λ (b : Bool). owned_by owner seat history ++ (if b then entry ∷ [] else [])) (eq-eqb (owner entry) seat (owned entry refl))
+owned-more owner seat history (Some entry) owned = grind (arith, filter-append, eq-eqb)
 
 module _ {O E : Type 0} (owner : E → ℕ) (lock : LockView O) (before after : LockSeatView E) (found left : List E) (entry : Option E) (was : WasAtHome owner lock.seats before.number before.log found)
     (owned : (e : E) → entry ≡ Some e → owner e ≡ before.number) (grown : left ≡ found ++ option_to_list entry) (logged : after.log ≡ before.log ++ option_to_list entry) where
@@ -61,9 +60,7 @@ module _ {O E : Type 0} (owner : E → ℕ) (lock : LockView O) (before after : 
   given-home = ap (option_map (λ (entries : List E). entries ++ option_to_list entry)) has_found ∙ ap Some (sym grown)
 
   given-log : get_or given.logs before.number [] ≡ after.log
-  given-log =
-      get_or-set_same state.logs before.number (get_or state.logs before.number [] ++ option_to_list entry) [] (omega (arith, was.inside, was.many))
-      ∙ (ap (λ (log : List E). log ++ option_to_list entry) was.there ∙ sym logged)
+  given-log = grind (arith, get_or-set_same)
 
   pub taken-given : IsTakenAndGiven owner lock before after found left entry
   taken-given = record {

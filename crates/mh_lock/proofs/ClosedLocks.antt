@@ -1,7 +1,7 @@
 -- Where all logs have come to one seat, the value is at home and each log is what its seat owns.
-use Rattle.std.proofs.Common.{arith, ◌≡◌, ◌≢◌, ℕ, zero, suc, ◌<◌, ◌==◌, cond, All, None, List, [], ◌∷◌, ◌++◌, length, get_or, set, map, count_by, sym, refl, ap, ◌∙◌, subst, ⊎_elim}
+use Rattle.std.proofs.Common.{arith, ◌≡◌, ℕ, zero, suc, ◌<◌, ◌==◌, cond, All, None, List, [], ◌∷◌, ◌++◌, length, get_or, set, map, count_by, sym, refl, ap, ◌∙◌, subst, ⊎_elim}
 use Rattle.std.proofs.lemmas.List.Sums.{sum_by-cons}
-use mathlib.Core.Option.{some, some-injective}
+use mathlib.Core.Option.{some}
 use lib.ListN.{get_elem?}
 use Rattle.atomic_table.specs.Table.{State, Seen}
 use Rattle.mh_model.specs.History.{LockState, owned_by, IsAtHome, IsOut}
@@ -59,19 +59,7 @@ module _ {X E : Type 0} (seat_of : X → LockSeatView E) where
 
     -- no other seat has a log
     no_holder : HasHolder owner entries origin (lock.seats, lock.origin) table → view.found ≡ None → ⊥
-    no_holder out free =
-        let apart : id ≢ out.holder = λ same.
-        let is_view : out.view ≡ view = some-injective out.view view (sym out.holder_view ∙ (ap (get_elem? table.views) (sym same) ∙ seen.1)) in
-        let found = out.found in let also = ap (λ (v : SeatView E O). v.found) is_view in absurd cc in
-        omega (
-          arith,
-          two_parts-of_total (λ v. weigh_numbers (λ _. 1) v.logs) table.views id out.holder view out.view apart seen.1 out.holder_view,
-          ones,
-          whole,
-          ones-weigh_length view.logs,
-          ones-weigh_length out.view.logs,
-          out.some_log,
-        )
+    no_holder out free = grind (arith, two_parts-of_total, ones, whole, ones-weigh_length)
 
     weighed : (h : ℕ → ℕ) → weigh_numbers h view.logs ≡ weigh_below h lock.seats
     weighed h =

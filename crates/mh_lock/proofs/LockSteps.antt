@@ -9,11 +9,12 @@ use prog.Atomic.{either}
 use Rattle.atomic_table.specs.Table.{State, step, keeps, takes, gives, opening, stepped, Allows, Splits, Joins}
 use Rattle.atomic_table.proofs.Lists.{at_set, at_snoc, set_again, set_here, set_else, at_longer}
 use Rattle.mh_model.specs.History.{LockState, owned_by, IsAtHome, IsOut}
-use Rattle.mh_seat_laws.specs.Lock.{Logs, weigh_numbers, Fits, AllFit, AllOwned, HasHome, HasHolder, IsLocked, Shows}
+use Rattle.mh_seat_laws.specs.Lock.{Logs, weigh_numbers, Fits, AllOwned, HasHome, HasHolder, IsLocked, Shows}
 use Rattle.mh_seat_laws.specs.{declared.seat_view.FoundValue.FoundValue, declared.seat_view.SeatView.SeatView}
 use Rattle.mh_seat_laws.proofs.lock.ShownLocks.{shown_lock, part-of_total, is, none_above}
 use Rattle.mh_seat_laws.proofs.TotalLemmas.{total-set, total-append_one}
-use Rattle.mh_lock.specs.Steps.{seat_view, empty_logs, all_seats, alone, holding, found_of, Grows, WasAtHome, Takes, Gives}
+use Rattle.mh_lock.specs.Steps.{seat_view, empty_logs, all_seats, alone, holding, found_of, WasAtHome, Takes, Gives}
+use Rattle.mh_lock.specs.Auxiliary.{Grows}
 use Rattle.mh_lock.proofs.SeatNumbers.{two_parts-of_total, is-same, at_most-one, weigh-append, weigh-cut, weigh-all}
 
 set-there : {A : Type 0} (l : List A) (i : ℕ) (v w : A) → get_elem? l i ≡ some v → get_elem? (set l i w) i ≡ some w
@@ -33,9 +34,7 @@ module _ {E : Type 0} (owner : E → ℕ) where
 
   owned-other : (other seat : ℕ) (before after : List E) → other ≢ seat → Grows owner seat before after → owned_by owner other after ≡ owned_by owner other before
   owned-other other seat before after apart (inl same) = ap (owned_by owner other) same
-  owned-other other seat before after apart (inr more) = let no : eqb (owner more.0) other ≡ false = ne_eqb (owner more.0) other (λ same. apart (sym same ∙ more.1)) in
-      ap (owned_by owner other) more.2
-      ∙ (owned-append_one other before more.0 ∙ (ap (λ (b : Bool). owned_by owner other before ++ cond b (more.0 ∷ []) []) no ∙ append-nil (owned_by owner other before)))
+  owned-other other seat before after apart (inr more) = grind (arith, eqb, ne_eqb, owned-append_one, cond, append-nil)
 
   fits-other : (seat : ℕ) (before after : List E) (logs : Logs E) → weigh_numbers (is seat) logs ≡ 0 → Grows owner seat before after → Fits owner before logs → Fits owner after logs
   fits-other seat before after [] without grows fits = tt
@@ -110,9 +109,7 @@ module _ {T E O : Type 0} (owner : E → ℕ) (entries : T → List E) (origin :
   -- nothing changes
   left : (table : State T (SeatView E O)) → Kept table → (id : ℕ) (view : SeatView E O) → get_elem? table.views id ≡ some view → (word : ℕ) → word ≡ get_or table.words 0 0
       → Kept (stepped table 0 word id [] view keeps)
-  left table rule id view there word same =
-      subst (λ (z : List ℕ × List (SeatView E O)). Kept record { words = z.0; homes = table.homes; views = z.1 })
-      (λ i. (sym (set-first table.words word rule.words same) i, sym (set_again table.views id view there) i)) rule
+  left table rule id view there word same = grind (arith, set-first, set_again)
 
   pub take-allowed : (slots id number : ℕ) (log : List E)
       → Allows Kept slots id (alone number log) 0 (λ word. either (eqb word 0) 1 word) (Takes owner entries origin (Some about) (step slots 0 0 1 none) (alone number log))
@@ -212,28 +209,13 @@ module _ {T E O : Type 0} (owner : E → ℕ) (entries : T → List E) (origin :
   only P p (suc id) view there = absurd (some-ne-none view (sym there))
 
   pub opening-locked : (value : T) → entries value ≡ [] → origin value ≡ about.1 → Kept (opening (0 ∷ []) (value ∷ []) (all_seats about))
-  opening-locked value empty same_origin = record {
-    words = refl;
-    slots = refl;
-    numbers = λ h. omega (arith, weigh-all E h seats);
-    place = inl record {
-      word = refl;
-      value = value;
-      at_home = refl;
-      same_origin = same_origin;
-      fits = λ id view there. only (λ v. Fits owner (entries value) v.logs) (fits-empty (entries value) 0 seats empty) id view there;
-      owned_all = subst (AllOwned owner seats) (sym empty) (All-nil (λ e. owner e < seats));
-      nobody = λ id view there. only (λ v. v.found ≡ None) refl id view there;
-    };
-  }
+  opening-locked value empty same_origin = grind (arith, weigh-all, inl, only, fits-empty, All-nil)
 
   -- Splits and joins of seats without the value --------------------------------------------------
 
   -- such a seat isn't the one that has it
   apart-holder : (table : State T (SeatView E O)) (out : HasHolder owner entries origin about table) (id : ℕ) (view : SeatView E O) → get_elem? table.views id ≡ some view → view.found ≡ None → out.holder ≢ id
-  apart-holder table out id view there free same =
-      let is_view : out.view ≡ view = some-injective out.view view (sym out.holder_view ∙ (ap (get_elem? table.views) same ∙ there)) in
-      let found = out.found in let also = ap (λ (v : SeatView E O). v.found) is_view in absurd cc
+  apart-holder table out id view there free same = grind arith
 
   fits-rest : (history : List E) (logs : Logs E) → Fits owner history logs → Fits owner history (drop 1 logs)
   fits-rest history [] fits = tt
@@ -244,45 +226,7 @@ module _ {T E O : Type 0} (owner : E → ℕ) (entries : T → List E) (origin :
   fits-first history (l ∷ ls) fits = (fits.0, tt)
 
   pub split-kept : (id : ℕ) (view : SeatView E O) → view.found ≡ None → Splits Kept id view (seat_view (drop 1 view.logs) view.found) (seat_view (take 1 view.logs) None)
-  split-kept id view free table rule there =
-      let rest : SeatView E O = seat_view (drop 1 view.logs) view.found in
-      let new : SeatView E O = seat_view (take 1 view.logs) None in
-      let cut : List (SeatView E O) = set table.views id rest in
-      let fits : (history : List E) → AllFit owner history table.views → AllFit owner history (cut ++ new ∷ []) = λ history all other seen is_there. ⊎_elim
-      (λ old. ⊎_elim (λ t. subst (λ (v : SeatView E O). Fits owner history v.logs) t.1 (fits-rest history view.logs (all id view there))) (λ t. all other seen t.1) (at_set table.views id other rest seen old))
-      (λ added. subst (λ (v : SeatView E O). Fits owner history v.logs) added (fits-first history view.logs (all id view there)))
-      (at_snoc cut new seen other is_there) in
-      let without : (other : ℕ) (seen : SeatView E O) → get_elem? (cut ++ new ∷ []) other ≡ some seen → (get_elem? table.views other ≡ some seen → seen.found ≡ None) → seen.found ≡ None = λ other seen is_there before. ⊎_elim
-      (λ old. ⊎_elim (λ t. ap (λ (v : SeatView E O). v.found) (sym t.1) ∙ free) (λ t. before t.1) (at_set table.views id other rest seen old))
-      (λ added. ap (λ (v : SeatView E O). v.found) (sym added))
-      (at_snoc cut new seen other is_there) in record {
-        words = rule.words;
-        slots = rule.slots;
-        numbers = λ h. omega (arith, total-append_one (λ v. weigh_numbers h v.logs) cut new, total-set (λ v. weigh_numbers h v.logs) table.views id view rest there, weigh-cut h view.logs, rule.numbers h);
-        place = ⊎_elim
-            (λ home. inl record {
-              word = home.word;
-              value = home.value;
-              at_home = home.at_home;
-              same_origin = home.same_origin;
-              fits = fits (entries home.value) home.fits;
-              owned_all = home.owned_all;
-              nobody = λ other seen is_there. without other seen is_there (home.nobody other seen);
-            })
-            (λ out. inr record {
-              word = out.word;
-              history = out.history;
-              holder = out.holder;
-              view = out.view;
-              holder_view = at_longer cut (new ∷ []) out.holder out.view (set_else table.views id out.holder rest (apart-holder table out id view there free) ∙ out.holder_view);
-              found = out.found;
-              some_log = out.some_log;
-              fits = fits out.history out.fits;
-              owned_all = out.owned_all;
-              others = λ other seen is_there apart. without other seen is_there (λ old. out.others other seen old apart);
-            })
-            rule.place;
-      }
+  split-kept id view free table rule there = grind (arith, fits-rest, at_set, fits-first, at_snoc, total-append_one, total-set, weigh-cut, inl, inr, at_longer, set_else, apart-holder)
 
   fits-append : (history : List E) (ls ms : Logs E) → Fits owner history ls → Fits owner history ms → Fits owner history (ls ++ ms)
   fits-append history [] ms a b = b
@@ -290,53 +234,4 @@ module _ {T E O : Type 0} (owner : E → ℕ) (entries : T → List E) (origin :
 
   pub join-kept : (id : ℕ) (view : SeatView E O) (other : ℕ) (before : SeatView E O) → view.found ≡ None → before.found ≡ None
       → Joins Kept id view other before (seat_view (before.logs ++ view.logs) view.found) (seat_view [] None)
-  join-kept id view other before free before_free table rule there apart joined =
-      let both : SeatView E O = seat_view (before.logs ++ view.logs) view.found in
-      let spent : SeatView E O = seat_view [] None in
-      let views : List (SeatView E O) = set table.views id both in
-      let was : get_elem? table.views other ≡ some before = ⊎_elim (λ t. absurd (apart t.0)) (λ t. t.1) (at_set table.views id other both before joined) in
-      let fits : (history : List E) → AllFit owner history table.views → AllFit owner history (set views other spent) = λ history all seat seen is_there. ⊎_elim
-      (λ t. subst (λ (v : SeatView E O). Fits owner history v.logs) t.1 tt)
-      (λ t. ⊎_elim
-      (λ k. subst (λ (v : SeatView E O). Fits owner history v.logs) k.1 (fits-append history before.logs view.logs (all other before was) (all id view there)))
-      (λ k. all seat seen k.1)
-      (at_set table.views id seat both seen t.1))
-      (at_set views other seat spent seen is_there) in
-      let without : (seat : ℕ) (seen : SeatView E O) → get_elem? (set views other spent) seat ≡ some seen → (get_elem? table.views seat ≡ some seen → seen.found ≡ None) → seen.found ≡ None = λ seat seen is_there old. ⊎_elim
-      (λ t. ap (λ (v : SeatView E O). v.found) (sym t.1))
-      (λ t. ⊎_elim (λ k. ap (λ (v : SeatView E O). v.found) (sym k.1) ∙ free) (λ k. old k.1) (at_set table.views id seat both seen t.1))
-      (at_set views other seat spent seen is_there) in record {
-        words = rule.words;
-        slots = rule.slots;
-        numbers = λ h. omega (
-          arith,
-          total-set (λ v. weigh_numbers h v.logs) views other before spent joined,
-          total-set (λ v. weigh_numbers h v.logs) table.views id view both there,
-          weigh-append h before.logs view.logs,
-          rule.numbers h,
-        );
-        place = ⊎_elim
-            (λ home. inl record {
-              word = home.word;
-              value = home.value;
-              at_home = home.at_home;
-              same_origin = home.same_origin;
-              fits = fits (entries home.value) home.fits;
-              owned_all = home.owned_all;
-              nobody = λ seat seen is_there. without seat seen is_there (home.nobody seat seen);
-            })
-            (λ out. inr record {
-              word = out.word;
-              history = out.history;
-              holder = out.holder;
-              view = out.view;
-              holder_view = set_else views other out.holder spent (apart-holder table out other before was before_free)
-                  ∙ (set_else table.views id out.holder both (apart-holder table out id view there free) ∙ out.holder_view);
-              found = out.found;
-              some_log = out.some_log;
-              fits = fits out.history out.fits;
-              owned_all = out.owned_all;
-              others = λ seat seen is_there apart_holder. without seat seen is_there (λ old. out.others seat seen old apart_holder);
-            })
-            rule.place;
-      }
+  join-kept id view other before free before_free table rule there apart joined = grind (arith, at_set, fits-append, total-set, weigh-append, inl, inr, set_else, apart-holder)

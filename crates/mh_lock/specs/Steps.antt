@@ -1,5 +1,5 @@
 -- What the steps at the word of the lock tell the seat that takes them.
-use Rattle.std.specs.Prelude.{◌≡◌, ◌≢◌, ℕ, zero, suc, ◌<◌, ◌⊎◌, List, [], ◌∷◌, ◌++◌, Option, Some, None, IfSome, get_or, length}
+use Rattle.std.specs.Prelude.{◌≡◌, ◌≢◌, ℕ, zero, suc, ◌<◌, List, [], ◌∷◌, Option, Some, None, IfSome, get_or, length}
 use Rattle.atomic_table.specs.Table.{Me, Step}
 use Rattle.mh_model.specs.History.{LockState, owned_by, IsAtHome}
 use Rattle.mh_seat_laws.specs.{Lock.{Logs, first}, declared.seat_view.FoundValue.FoundValue}
@@ -35,19 +35,10 @@ module _ {T E O : Type 0} where
   abbrev pub holding : ℕ → List E → FoundValue E O → T → Me T (SeatView E O)
   holding number log found value = (seat_view ((number, log) ∷ []) (Some found), (0, value) ∷ [])
 
--- a history stays, or has one entry more, which a seat owns
-abbrev pub Grows : {E : Type 0} → (E → ℕ) → ℕ → List E → List E → Type 0
-Grows {E} owner seat before after = (after ≡ before) ⊎ ((entry : E) × (owner entry ≡ seat) × (after ≡ before ++ entry ∷ []))
-
 -- the entries of the value that a seat has
 abbrev pub held : {T E : Type 0} → (T → List E) → List (ℕ × T) → List E
 held entries [] = []
 held entries (slot ∷ slots) = entries slot.1
-
--- the origin of the value that a seat has
-abbrev pub held_origin : {T O : Type 0} → (T → O) → List (ℕ × T) → Option O
-held_origin origin [] = None
-held_origin origin (slot ∷ slots) = Some (origin slot.1)
 
 -- what a seat that takes the value finds of it
 abbrev pub found_of : {T E O : Type 0} → (T → List E) → (T → O) → T → FoundValue E O
@@ -75,14 +66,6 @@ module _ {T E O : Type 0} (owner : E → ℕ) (entries : T → List E) (origin :
   -- A try to take the value: if 0 was found the seat has it, and else nothing has changed
   abbrev pub Takes : Option (ℕ × O) → Step T → Me T (SeatView E O) → ℕ → Me T (SeatView E O) → Type 0
   Takes about step before found after = (found ≡ 0 → IfSome about (λ key. HasTaken key before after)) × (found ≢ 0 → after ≡ before)
-
-  -- A seat has the value with the origin that it found, and with the entries that it found, or one more, which it owns
-  pub record CanGive (seat : Me T (SeatView E O)) : Type 0 where
-    pub found : FoundValue E O
-    pub value : T
-    pub holds : seat ≡ holding (number_in seat) (log_in seat) found value
-    pub entries_grow : Grows owner (number_in seat) found.history (entries value)
-    pub same_origin : origin value ≡ found.origin
 
   -- The value is given back, and the log is what the seat owns of it
   abbrev pub Gives : Step T → Me T (SeatView E O) → ℕ → Me T (SeatView E O) → Type 0

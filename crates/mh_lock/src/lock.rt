@@ -13,7 +13,7 @@
 ghost use Rattle.std.specs.Prelude.{◌≡◌, ◌≢◌, ◌+◌, ◌<◌, ◌==◌, [], ◌∷◌, ◌++◌, ℕ, List, Option, None, true, false, All, IfOk, IfErr, OnErr, count_by, map, slice_index_or, vec_len};
 ghost use Rattle.mh_model.specs.History.{owned_by};
 ghost use Rattle.mh_lock.specs.Seats.{LockSeatView, IsOf, new_seat, IsKeptAtHome, IsDoneUnderLock, entry_of_call};
-ghost use Rattle.mh_lock.specs.Steps.{alone, log_in, number_in, held, held_origin, HasTaken, CanGive};
+ghost use Rattle.mh_lock.specs.{Steps.{alone, log_in, number_in, held, HasTaken}, Auxiliary.{held_origin, CanGive}};
 
 use crate::entries::{Entries, Owned, Work};
 use crate::seat::{HasSeat, LockSeat};

@@ -2,11 +2,11 @@
 use Rattle.std.proofs.Common.{◌≡◌, ◌∙◌, inl, inr, ℕ, suc, ◌+◌, ◌-◌, ◌<◌, ◌≤◌, true, false, Option, Some, None, IsSome, IsNone, List, [], ◌∷◌, ◌++◌, length, map, take, get_or, ap, sym, refl, subst, arith}
 use Rattle.std.proofs.lemmas.List.{length-append, length_push, take_all, take_at, take-append-le, take_more, map-append}
 use Rattle.mh_model.specs.{declared.command.Event.Event, declared.config.Config.Config, History.IsFirstBadOf}
-use Rattle.mh_model.specs.{HistoryTexts.IsJudged, Machine.{Machine, first_machine, event_step}}
+use Rattle.mh_model.specs.Machine.{Machine, first_machine, event_step}
 use Rattle.mh_run_laws.specs.Replays.{machine_at}
 use Rattle.mh_run_laws.proofs.runs.RunsByEvents.{after_more, no-events}
 use Rattle.mh_machine.specs.Running.{Running, first_running}
-use Rattle.mh_machine.specs.Judging.{HasJudged, HasSeen, IsEventRule, IsTried, Judging, found_by}
+use Rattle.mh_machine.specs.Judging.{HasJudged, HasSeen, IsEventRule, IsTried, Judging}
 pub use Rattle.mh_machine.specs.Rules.{record-more}
 
 -- Any rule ---------------------------------------------------------------------------------------
@@ -108,10 +108,3 @@ module _ {X : Type 0} (config : Config) (event_of : X → Event) (Lawful : List 
   pub found_first : (found : Option ℕ) (number : ℕ) → found ≡ Some number → HasSeen config event_of Lawful xs (record { running = running; first_bad = found }) → IsFirstBadOf Lawful xs number
   found_first None number is seen = cc
   found_first (Some other) number is seen = let same : other ≡ number = cc in subst (IsFirstBadOf Lawful xs) same seen
-
--- the verdict that a judge has is that on what was shown
-pub judged_by : {X : Type 0} (config : Config) (event_of : X → Event) (Lawful : List X → Type 0) (xs : List X) (judging : Judging) → HasSeen config event_of Lawful xs judging → IsJudged Lawful xs (found_by judging)
-judged_by config event_of Lawful xs judging = by judging.first_bad where
-  by : (found : Option ℕ) → HasSeen config event_of Lawful xs (record { running = judging.running; first_bad = found }) → IsJudged Lawful xs (found_by (record { running = judging.running; first_bad = found }))
-  by None seen = (seen.lawful, seen.done)
-  by (Some number) seen = seen

@@ -10,7 +10,7 @@ use Rattle.mh_run_laws.specs.Forgetting.{KeepsPromise, Recalls, forgotten}
 use Rattle.mh_run_laws.specs.ForgettingLaws.{EventsKeepWhatIsRecalled, ForgottenTracesKeepTheirPromise}
 use Rattle.mh_run_laws.proofs.runs.RunsByEvents.{after_more}
 use Rattle.mh_laws.proofs.bounds.CyclesInTime.{run-stays}
-use Rattle.mh_machine.specs.{Engines.IsShort, Running.{Running, IsRunning}}
+use Rattle.mh_machine.specs.{Auxiliary.{IsShort, IsRunning}, Running.Running}
 
 -- a machine within so many events, which are few, is short
 short-within : (count : ℕ) (machine : Machine) → most_letters machine.heap.config ≤ 1003661 → count ≤ 4398046511104 → IsWithinItsEvents count machine → IsShort machine

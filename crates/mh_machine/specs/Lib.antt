@@ -1,6 +1,6 @@
-pub mod Engines
 pub mod Judging
 pub mod Reserved
 pub mod Rules
 pub mod Running
 pub mod Telling
+pub mod Auxiliary

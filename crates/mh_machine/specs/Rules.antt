@@ -6,16 +6,13 @@ use Rattle.mh_model.specs.{declared.history.Measured.Measured, declared.reply.Re
 use Rattle.mh_model.specs.{Limits.most_entries, HistoryTexts.{IsLegalRecord, measured_step, machine_record}}
 use Rattle.mh_model.specs.Machine.{Machine, first_machine, event_step, machine_after, machine_replies}
 use Rattle.mh_run_laws.specs.Replays.{MachineRepliesMore, machine_at}
-use Rattle.mh_machine.specs.Judging.{HasItsReply, IsEventRule, IsMeasured}
+use Rattle.mh_machine.specs.{Judging.{HasItsReply, IsEventRule, IsMeasured}, Auxiliary.{event_of, measured_event}}
 
 none_are_few : 0 ≤ most_entries
 unfolding most_entries
 none_are_few = lit≤ tt
 
 -- Histories --------------------------------------------------------------------------------------
-
-abbrev pub event_of : Entry → Event
-event_of entry = entry.event
 
 abbrev reply_of : Entry → Reply
 reply_of entry = entry.reply
@@ -38,9 +35,6 @@ legal_rule replies_more config = record {
 }
 
 -- Records ----------------------------------------------------------------------------------------
-
-abbrev pub measured_event : Measured → Event
-measured_event measured = measured.entry.event
 
 pub record-more : (machine : Machine) (before : List Event) (event : Event)
     → machine_record machine (before ++ event ∷ []) ≡ machine_record machine before ++ measured_step (machine_after machine before) event (event_step (machine_after machine before) event) ∷ []

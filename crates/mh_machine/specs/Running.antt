@@ -1,9 +1,8 @@
 -- The machine that runs, with the number of events that it has done and the room of its trace.
-use Rattle.std.specs.Prelude.{◌≡◌, ◌≤◌, ◌<◌, ◌+◌, ◌*◌, ℕ, suc, List, length}
+use Rattle.std.specs.Prelude.{◌≡◌, ◌≤◌, ◌<◌, ◌+◌, ◌*◌, ℕ, suc}
 use Rattle.mh_model.specs.{declared.command.Event.Event, declared.config.Config.Config, declared.reply.Reply.Reply}
-use Rattle.mh_model.specs.{Limits.most_events, World.says, Machine.{Machine, first_machine, event_step, machine_after}}
-use Rattle.mh_model.specs.declared.command.Control.{Control}
-use Rattle.mh_run_laws.specs.Forgetting.{Recalls, forgotten}
+use Rattle.mh_model.specs.{World.says, Machine.{Machine, first_machine, event_step}, declared.command.Control.Control}
+use Rattle.mh_run_laws.specs.Forgetting.{forgotten}
 
 -- the machine, how many events it has done, and how many segments its trace has room for without asking for memory: more than it has, and in all
 pub record Running : Type 0 where
@@ -36,13 +35,6 @@ pub record Reserves (events : ℕ) (old new : Running) : Type 0 where
   pub done : new.done ≡ old.done
   pub room : events * 2 ≤ new.room
   pub capacity : events * 2 ≤ new.capacity
-
--- the machine is that after some events, as many as it has done, but that it may have forgotten how its trace begins
-pub record IsRunning (config : Config) (running : Running) : Type 0 where
-  pub events : List Event
-  pub few : running.done ≤ most_events
-  pub count : length events ≡ running.done
-  pub recalls : Recalls (machine_after (first_machine config) events) running.machine
 
 -- An event may ask for memory: a dump for its items, and a command or a quantum for the trace, where that has no room for both their units
 abbrev pub MayAskForMemory : ℕ → Event → Type 0

@@ -8,8 +8,8 @@ ghost use Rattle.std.specs.Prelude.{◌≡◌, ℕ, ◌+◌, ◌<◌, ◌≤◌,
 ghost use Rattle.mh_model.specs.{declared.birth.TheConstants.LIFE, Classes.parts, World.says};
 ghost use Rattle.mh_model.specs.Deeds.{account_of, command_deeds, ran_by, ran_if};
 ghost use Rattle.mh_model.specs.Machine.{first_machine, command_units, quantum_run, is_quantum_due, with_due_quantum, command_step, control_step, half_step, event_step};
-ghost use Rattle.mh_machine.specs.{Engines.{machine_of, IsShort}, Running.MayAskForMemory};
-ghost use Rattle.mh_machine.specs.Telling.{AddsRan, command_alone, nothing};
+ghost use Rattle.mh_machine.specs.Auxiliary.{machine_of, IsShort, AddsRan, command_alone, nothing};
+ghost use Rattle.mh_machine.specs.Running.{MayAskForMemory};
 ghost use Rattle.mh_model.specs.declared.command.Command.TheVariants as commands;
 ghost use Rattle.mh_model.specs.declared.command.Control.TheVariants as controls;
 ghost use Rattle.mh_model.specs.declared.command.Event.TheVariants as events;

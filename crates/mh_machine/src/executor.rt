@@ -3,7 +3,7 @@
 ghost use Rattle.std.specs.Prelude.{◌≡◌, ◌<◌, Some};
 ghost use Rattle.mh_model.specs.{declared.birth.TheConstants.LIFE, Deeds.{command_deeds, ran_by}};
 ghost use Rattle.mh_paged.specs.{Kept.Steps, Lawful.IsQuantum};
-ghost use Rattle.mh_machine.specs.Telling.{AddsRan, command_alone, nothing};
+ghost use Rattle.mh_machine.specs.Auxiliary.{AddsRan, command_alone, nothing};
 ghost use Rattle.mh_model.specs.Deeds as model;
 
 use mh_deeds::account::Account;

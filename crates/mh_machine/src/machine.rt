@@ -23,8 +23,8 @@ ghost use Rattle.std.specs.Prelude.{◌≡◌, ◌<◌, ◌≤◌, ◌↔◌, Ok
 ghost use Rattle.mh_model.specs.{Limits.{most_entries, most_events}, Deeds.account_of, Machine.report_on};
 ghost use Rattle.mh_run_laws.specs.Forgetting.{KeepsPromise};
 ghost use Rattle.mh_deeds.specs.Accounts.{empty_account, Tells};
-ghost use Rattle.mh_machine.specs.{Running.{first_running, Does, Forgets, MayAskForMemory, Reserves}, Telling.nothing};
-ghost use Rattle.mh_machine.specs.declared.machine.Stop.{Stop};
+ghost use Rattle.mh_machine.specs.Running.{first_running, Does, Forgets, MayAskForMemory, Reserves};
+ghost use Rattle.mh_machine.specs.{Auxiliary.nothing, declared.machine.Stop.Stop};
 
 use crate::engine::Engine;
 use crate::executor::{Executor, Plain};
@@ -83,7 +83,7 @@ impl Drop for Machine {
 
 impl Model for Machine {
     ghost use Rattle.std.specs.Prelude.{◌≡◌};
-    ghost use Rattle.mh_machine.specs.{Engines.machine_of, Running.{Running, IsRunning}};
+    ghost use Rattle.mh_machine.specs.{Auxiliary.{machine_of, IsRunning}, Running.Running};
 
     ghost Value = { Running };
 

@@ -1,14 +1,14 @@
 -- The longest front taken off place by place, and the batch that it is marked as.
-use Rattle.std.proofs.Common.{◌≡◌, ℕ, zero, suc, ◌+◌, ◌-◌, ◌<◌, ◌≤◌, ◌==◌, ◌||◌, true, if◌then◌else◌, List, [], ◌∷◌, ◌++◌, length, get_or, slice_get, drop, Some, IsSome, refl, sym, ap, ◌∙◌, subst, arith, append_assoc, eq-eqb}
+use Rattle.std.proofs.Common.{◌≡◌, ℕ, zero, suc, ◌+◌, ◌-◌, ◌<◌, ◌≤◌, ◌==◌, ◌||◌, true, if◌then◌else◌, List, [], ◌∷◌, ◌++◌, length, get_or, slice_get, Some, IsSome, refl, sym, ap, ◌∙◌, subst, arith, append_assoc, eq-eqb}
 use Rattle.std.proofs.{Math.Seq.drop-append_seam, lemmas.Bool.{le-leb, lt-leb, or_right}, lemmas.Bool.Decides.nat_tests}
 use Rattle.std.proofs.{lemmas.List.append-nil, lemmas.List.Sums.{sum_by-append, sum_by-cons}, lemmas.Option.same_Some}
 use Rattle.std.specs.List.{IsDistinct}
 use Rattle.mh_model.specs.{Pages.{Table, block_at}, Table.{Block, references_at, found_in}}
 use Rattle.mh_model.specs.Collector.{Marking, mark_cost}
-use Rattle.mh_model.specs.Batches.{longest_front, batch_cost, batch_written, batch_marked, NoneTwice}
+use Rattle.mh_model.specs.Batches.{longest_front, batch_cost, batch_written, NoneTwice}
 use Rattle.mh_table_laws.proofs.marking.BatchMarking.{none_twice-front, first_marked, mark_step-front, batch_written-first}
 use Rattle.mh_grey.specs.{Queue.{Queue, is_in}, Shading.marking}
-use Rattle.mh_mark.specs.{Walkable.IsWalkable, Batched.{AreMarkable, blocks_marked, front_marked}}
+use Rattle.mh_mark.specs.{Walkable.IsWalkable, Auxiliary.{AreMarkable, blocks_marked}, Batched.front_marked}
 
 front-more : (table : Table Block) (more left place : ℕ) (grey : List ℕ) → mark_cost table place ≤ left → longest_front (suc more) table left (place ∷ grey) ≡ place ∷ longest_front more table (left - mark_cost table place) grey
 unfolding longest_front
@@ -73,9 +73,7 @@ front-is : (table : Table Block) (most left : ℕ) (old batch grey : List ℕ) (
 front-is table most left old batch grey count cost on none = sym (on.front ∙ ap (λ f. batch ++ f) none ∙ append-nil batch)
 
 pub front-ends_full : (table : Table Block) (most left : ℕ) (old batch grey : List ℕ) (count cost : ℕ) → IsFrontOn table most left old batch grey count cost → most ≤ count → batch ≡ longest_front most table left old
-front-ends_full table most left old batch grey count cost on full =
-    let none : most - count ≡ 0 = omega arith in
-    front-is table most left old batch grey count cost on (ap (λ n. longest_front n table (left - cost) grey) none ∙ front-full table (left - cost) grey)
+front-ends_full table most left old batch grey count cost on full = grind (arith, front-is, front-full)
 
 pub front-ends_empty : (table : Table Block) (most left : ℕ) (old batch grey : List ℕ) (count cost : ℕ) → IsFrontOn table most left old batch grey count cost → (length grey == 0) ≡ true → batch ≡ longest_front most table left old
 front-ends_empty table most left old batch [] count cost on empty = front-is table most left old batch [] count cost on (front-none table (most - count) (left - cost))
@@ -86,9 +84,7 @@ front-ends_empty table most left old batch (place ∷ grey) count cost on empty 
 
 pub front-ends_dear : (table : Table Block) (most left : ℕ) (old batch grey : List ℕ) (count cost front one : ℕ) → IsFrontOn table most left old batch grey count cost → slice_get grey 0 ≡ Some front → one ≡ 1 + length (references_at table front) → left - cost < one → batch ≡ longest_front most table left old
 front-ends_dear table most left old batch [] count cost front one on at price dear = cc
-front-ends_dear table most left old batch (place ∷ grey) count cost front one on at price dear =
-    let same : place ≡ front = same_Some place front at in
-    front-is table most left old batch (place ∷ grey) count cost on (front-dear table (most - count) (left - cost) place grey (omega (arith, price, ap (mark_cost table) same)))
+front-ends_dear table most left old batch (place ∷ grey) count cost front one on at price dear = grind (arith, same_Some, front-is, front-dear)
 
 -- The batch ------------------------------------------------------------------------------------------
 
@@ -105,9 +101,7 @@ pub record IsFront (table : Table Block) (cycle left : ℕ) (old batch rest : Li
   pub parts : old ≡ batch ++ rest
 
 front-batch : (table : Table Block) (cycle left : ℕ) (old batch rest : List ℕ) → IsFront table cycle left old batch rest → batch_written (marking table rest cycle) batch (found_in table batch) ≡ front_marked left (marking table old cycle)
-front-batch table cycle left old batch rest f =
-    ap (λ r. batch_written (marking table r cycle) batch (found_in table batch)) (sym (ap (drop (length batch)) f.parts ∙ drop-append_seam batch rest))
-    ∙ ap (λ b. batch_marked (marking table old cycle) b (drop (length b) old)) f.is
+front-batch table cycle left old batch rest f = grind (arith, drop-append_seam)
 
 pub front-blocks : (table : Table Block) (cycle left : ℕ) (old batch rest : List ℕ) → IsFront table cycle left old batch rest → NoneTwice old → blocks_marked (marking table rest cycle) batch ≡ front_marked left (marking table old cycle)
 front-blocks table cycle left old batch rest f once = blocks-batch batch (marking table rest cycle) (none_twice-front batch rest (subst NoneTwice f.parts once)) ∙ front-batch table cycle left old batch rest f

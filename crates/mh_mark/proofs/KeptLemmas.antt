@@ -1,10 +1,10 @@
 -- One reference written and shaded, and what that keeps.
-use Rattle.std.proofs.Common.{◌≡◌, ◌≢◌, ℕ, zero, suc, ◌+◌, ◌<◌, ◌≤◌, ◌==◌, ◌⊎◌, Bool, true, false, not, inl, inr, List, [], ◌∷◌, length, get_or, set, drop, Option, Some, None, option_map, unwrap_or, is_some, IsSome, refl, sym, ap, ◌∙◌, subst, arith, eq-eqb}
+use Rattle.std.proofs.Common.{◌≡◌, ◌≢◌, ℕ, zero, suc, ◌+◌, ◌<◌, ◌==◌, ◌⊎◌, Bool, true, false, not, inl, inr, List, [], ◌∷◌, length, get_or, set, drop, Option, Some, None, option_map, unwrap_or, is_some, IsSome, refl, sym, ap, ◌∙◌, subst, arith, eq-eqb}
 use Rattle.std.proofs.lemmas.Bool.{cases_eq, false≢true, and_parts, eqb-true}
 use Rattle.std.proofs.lemmas.List.{get_or-set_other, get_or-set_same, length-set, drop_more, get_or-map}
 use Rattle.std.specs.List.{list_all}
 use Rattle.mh_model.specs.Pages.{Table, block_at}
-use Rattle.mh_model.specs.Table.{Block, resolve, references_at, reference_at, with_reference_at, target_of, stamp_at, forward_at, LeadsHome}
+use Rattle.mh_model.specs.Table.{Block, references_at, reference_at, with_reference_at, target_of, stamp_at, forward_at, LeadsHome}
 use Rattle.mh_model.specs.Collector.{Marking, shade_block, shade_place, shade, mark_reference, mark_references}
 use Rattle.mh_table_laws.proofs.{placing.Places.block_at-with_block_other, marking.GreyList.cycle-mark_references}
 use Rattle.mh_table_laws.proofs.marking.BatchMarking.{leads_of}
@@ -12,7 +12,7 @@ use Rattle.mh_grey.specs.{Queue.is_in, Shading.{marking, AreMarked}}
 use Rattle.mh_grey.proofs.{QueueLemmas.in-push, ShadeLemmas.{shade-marked, shade-new}}
 use Rattle.mh_grey.proofs.StampLemmas.{change-view, IsLike, like-trans, like-reference, home-like, IsShaded, shaded, place-stamped}
 use Rattle.mh_scan.specs.Scanning.{IsScannable, is_reached, is_settled, settled_in}
-use Rattle.mh_mark.specs.{Batched.{IsMarkable, blocks_marked}, Walkable.IsResolved}
+use Rattle.mh_mark.specs.Auxiliary.{IsMarkable, blocks_marked, IsResolved}
 use Rattle.mh_mark.specs.Kept.{IsReached, HasSettledReferences, KeepsMarking}
 use Rattle.mh_mark.proofs.MarkLemmas.{IsMarkingOn}
 use Rattle.mh_mark.proofs.ReferenceLemmas.{home-leads, at_home-leads, target-at_home, references_written, class-with_block, class-shaded, marked-written, write, write-home, marked-null, marked-straight}
@@ -40,10 +40,7 @@ kept-trans a b c ab bc = record {
 -- what is newly grey is no forwarder
 shade-grey : (m : Marking) (target : Option ℕ) (q : ℕ) → LeadsHome m.table target → is_in q (shade m target).grey ≡ true → (is_in q m.grey ≡ true) ⊎ (IsSome (block_at m.table q) × (forward_at m.table q ≡ None))
 shade-grey m None q home is = inl is
-shade-grey m (Some r) q home is = elim (cases_eq (stamp_at m.table (resolve m.table r)) m.cycle) [
-  | inl same ↦ inl (rw (shade-marked m r home.0 same) at is)
-  | inr apart ↦ elim (in-push m.grey (resolve m.table r) q (rw (shade-new m r home.0 apart) at is)) [ inl old ↦ inl old | inr new ↦ inr (rw new home) ]
-]
+shade-grey m (Some r) q home is = grind (arith, cases_eq, inl, shade-marked, inr, in-push, shade-new)
 
 -- what holds of each reference of a block does so after a reference was written and a place shaded, if each is kept so and the one that is written is so
 each-written : (P Q : Option ℕ → Type 0) → ((reference : Option ℕ) → P reference → Q reference) → (table : Table Block) (place index : ℕ) (target : Option ℕ) (new : Table Block) → ((q : ℕ) → references_at new q ≡ references_at (with_reference_at table place index target) q) → Q target
@@ -61,10 +58,7 @@ each-written P Q keeps table place index target new same fits q long each i belo
     none (Some b) e = absurd (false≢true (sym e))
 
     by_index : (rs : List (Option ℕ)) → references_at table q ≡ rs → i < length rs → Q (get_or (set rs index target) i None)
-    by_index rs is inside = elim (cases_eq i index) [
-      | inl at ↦ subst Q (sym (ap (λ k. get_or (set rs index target) k None) at ∙ get_or-set_same rs index target None (subst (λ k. k < length rs) at inside))) fits
-      | inr apart ↦ subst Q (sym (get_or-set_other rs index i target None apart) ∙ refl) (subst (λ l. Q (get_or l i None)) is (keeps (reference_at table q i) (each i (rw is inside))))
-    ]
+    by_index rs is inside = grind (arith, cases_eq, inl, get_or-set_same, inr, get_or-set_other)
 
     by_block : (there : Bool) → is_some (block_at table q) ≡ there → q ≡ place → Q (get_or (references_at new q) i None)
     by_block true at here =

@@ -59,6 +59,4 @@ marking-goes start place m index on below =
 
 pub marking-goes_on : (start : Marking) (place : ℕ) (m : Marking) (index : ℕ) → IsMarkingOn start place m index → index < length (references_at start.table place)
     → IsMarkingOn start place (marking (mark_reference m place index (reference_at m.table place index)).table (mark_reference m place index (reference_at m.table place index)).grey start.cycle) (index + 1)
-marking-goes_on start place m index on below =
-    let next = marking-goes start place m index on below in
-    subst (λ n. IsMarkingOn start place (marking (mark_reference m place index (reference_at m.table place index)).table (mark_reference m place index (reference_at m.table place index)).grey n) (index + 1)) next.cycle next
+marking-goes_on start place m index on below = grind (arith, marking-goes)

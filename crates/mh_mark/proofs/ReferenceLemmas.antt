@@ -1,5 +1,5 @@
 -- One reference of a block: where it leads, and what writing it back and shading it are.
-use Rattle.std.proofs.Common.{◌≡◌, ℕ, zero, suc, ◌+◌, ◌*◌, Bool, true, false, inl, inr, List, [], ◌∷◌, get_or, set, Option, Some, None, option_map, option_and_then, unwrap_or, is_some, IsSome, refl, sym, ap, ◌∙◌, subst}
+use Rattle.std.proofs.Common.{arith, ◌≡◌, ℕ, zero, suc, ◌+◌, ◌*◌, Bool, true, false, inl, inr, List, [], ◌∷◌, get_or, set, Option, Some, None, option_map, option_and_then, unwrap_or, is_some, IsSome, refl, sym, ap, ◌∙◌}
 use Rattle.std.proofs.{lemmas.Bool.false≢true, lemmas.List.set-get_or}
 use Rattle.mh_model.specs.Pages.{Table, page_number, slot_number, page_at, block_in, block_at, class_at, page_with, with_block}
 use Rattle.mh_model.specs.Table.{Block, resolve, target_of, references_at, reference_at, with_reference_at, forward_at, LeadsOn, LeadsHome}
@@ -8,7 +8,7 @@ use Rattle.mh_pages.specs.Addresses.{address_in}
 use Rattle.mh_table_laws.proofs.{marking.BatchMarking.there_before, placing.Places.block_at-with_block_there}
 use Rattle.mh_grey.specs.{Queue.is_in, Shading.{IsApartAt, AreMarked}}
 use Rattle.mh_grey.proofs.{ShadeLemmas.shade-cases, StampLemmas.{change-view, like-reference}}
-use Rattle.mh_mark.specs.Walkable.{IsResolved}
+use Rattle.mh_mark.specs.Auxiliary.{IsResolved}
 
 -- Where references lead ------------------------------------------------------------------------------
 
@@ -19,9 +19,7 @@ home-leads table (Some place) home = (there_before table place home.0, home.0)
 -- what a reference to a block that is no forwarder leads to is that block
 pub at_home-leads : (table : Table Block) (reference : Option ℕ) → IsResolved table reference → LeadsHome table reference
 at_home-leads table None home = tt
-at_home-leads table (Some place) home =
-    let same : resolve table place ≡ place = ap (λ o. unwrap_or o place) home.1 in
-    rw same home
+at_home-leads table (Some place) home = grind arith
 
 pub target-at_home : (table : Table Block) (reference : Option ℕ) → LeadsHome table reference → IsResolved table (target_of table reference)
 target-at_home table None home = tt
@@ -71,10 +69,7 @@ pub class-with_block : {X : Type 0} (table : Table X) (place page : ℕ) (conten
 class-with_block table place page content = class_kept table (page_number place) (slot_number place) page content
 
 pub class-shaded : (m : Marking) (reference : Option ℕ) (page : ℕ) → LeadsOn m.table reference → class_at (shade m reference).table page ≡ class_at m.table page
-class-shaded m reference page leads = elim (shade-cases m reference leads) [
-  | inl same ↦ ap (λ (x : Marking). class_at x.table page) same
-  | inr new ↦ ap (λ (x : Marking). class_at x.table page) new.1.is ∙ class-with_block m.table new.0 page _
-]
+class-shaded m reference page leads = grind (arith, shade-cases, inl, inr, class-with_block)
 
 pub same_address : (table new : Table Block) (place : ℕ) → ((page : ℕ) → class_at new page ≡ class_at table page) → address_in table place ≡ address_in new place
 same_address table new place same = ap (λ (o : Option ℕ). record { place = place; word = 256 * page_number place + slot_number place * unwrap_or o 0 }) (sym (same (page_number place)))
@@ -124,9 +119,7 @@ pub record IsMoved (table : Table Block) (place index from target : ℕ) : Type 
 
 pub is_moved : (table : Table Block) (place index from target : ℕ) (read : Option ℕ) → LeadsHome table (reference_at table place index) → read ≡ reference_at table place index → read ≡ Some from → target ≡ resolve table from
     → IsMoved table place index from target
-is_moved table place index from target read home at is leads =
-    let reference : reference_at table place index ≡ Some from = sym at ∙ is in
-    record { reference = reference; leads = leads; home = subst (λ p. IsResolved table (Some p)) (sym leads) (subst (LeadsHome table) reference home) }
+is_moved table place index from target read home at is leads = grind (arith, leads, home)
 
 pub marked-moved : (m : Marking) (place index from target : ℕ) → IsMoved m.table place index from target
     → shade_place (record m { table = with_reference_at m.table place index (Some target) }) target ≡ mark_reference m place index (reference_at m.table place index)

@@ -1,11 +1,11 @@
 -- The deed of a reference that is marked through.
-use Rattle.std.proofs.Common.{◌≡◌, ℕ, suc, ◌+◌, ◌<◌, List, ◌∷◌, length, drop, slice_get, Option, Some, None, [], sym, ap, ◌∙◌, subst, arith}
+use Rattle.std.proofs.Common.{◌≡◌, ℕ, ◌+◌, ◌<◌, List, ◌∷◌, length, drop, slice_get, Option, Some, [], sym, ap, ◌∙◌, subst, arith}
 use Rattle.std.proofs.{lemmas.List.drop_more, lemmas.Option.same_Some}
 use Rattle.mh_model.specs.{declared.deed.Deed.Deed, Pages.Table, Table.{Block, references_at, reference_at}}
 use Rattle.mh_model.specs.{Collector.{Marking, mark_reference}, Deeds.{name_at, edge_of, reference_deeds, mark_deeds}}
 use Rattle.mh_grey.specs.Shading.{marking}
 use Rattle.mh_mark.proofs.{KeptLemmas.marked-as, MarkLemmas.{IsMarkingOn, marking-goes}}
-use Rattle.mh_deeds.specs.Logs.{Told, Leads}
+use Rattle.mh_deeds.specs.{Logs.Told, Auxiliary.Leads}
 use Rattle.mh_deeds.proofs.ToldLemmas.{told-then, leads-goes}
 
 -- the deed of the next reference, and those of the references after it
@@ -13,11 +13,7 @@ references-next : (start : Marking) (place : ℕ) (m : Marking) (index : ℕ) �
     → reference_deeds m place index (drop index (references_at start.table place))
     ≡ Deed.Reference index (edge_of m.table (reference_at m.table place index) m.grey (mark_reference m place index (reference_at m.table place index)).grey)
     ∷ reference_deeds (mark_reference m place index (reference_at m.table place index)) place (index + 1) (drop (index + 1) (references_at start.table place))
-references-next start place m index on below =
-    let next : suc index ≡ index + 1 = omega arith in
-    ap (reference_deeds m place index) (drop_more (references_at start.table place) index None below)
-    ∙ ap (λ reference. reference_deeds m place index (reference ∷ drop (index + 1) (references_at start.table place))) (sym (on.rest index (omega arith)))
-    ∙ ap (λ i. Deed.Reference index (edge_of m.table (reference_at m.table place index) m.grey (mark_reference m place index (reference_at m.table place index)).grey) ∷ reference_deeds (mark_reference m place index (reference_at m.table place index)) place i (drop (index + 1) (references_at start.table place))) next
+references-next start place m index on below = grind (arith, drop_more)
 
 -- a reference told, as it was marked through
 pub leads-reference : {Log : Type 0} (has : List Deed → Log → Type 0) (start : Marking) (place : ℕ) (m : Marking) (index : ℕ) → IsMarkingOn start place m index → index < length (references_at start.table place)

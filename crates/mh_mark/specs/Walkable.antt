@@ -1,12 +1,7 @@
 -- What marking asks for.
-use Rattle.std.specs.Prelude.{◌≡◌, ℕ, ◌<◌, true, Option, Some, None, IsSome, List, length}
-use Rattle.mh_model.specs.{Pages.{Table, block_at}, Table.{Block, references_at, reference_at, forward_at, LeadsHome}}
+use Rattle.std.specs.Prelude.{◌≡◌, ℕ, ◌<◌, true, IsSome, List, length}
+use Rattle.mh_model.specs.{Pages.{Table, block_at}, Table.{Block, references_at, reference_at, LeadsHome}}
 use Rattle.mh_grey.specs.{Queue.is_in, Shading.AreMarked}
-
--- a reference is null, or the place of a block that is no forwarder
-abbrev pub IsResolved : Table Block → Option ℕ → Type 0
-IsResolved table None = Unit {0}
-IsResolved table (Some place) = IsSome (block_at table place) × (forward_at table place ≡ None)
 
 -- the references of the block at a place lead in one hop at most to blocks that are no forwarders
 abbrev pub LeadHome : Table Block → ℕ → Type 0

@@ -4,8 +4,8 @@ ghost use Rattle.std.specs.Prelude.{◌≡◌, ℕ, ◌≤◌, ◌++◌, [], tru
 ghost use Rattle.mh_model.specs.{Pages.block_at, Batches.{batch_cost, longest_front}};
 ghost use Rattle.mh_grey.specs.{Queue.is_in, Shading.{marking, AreMarked}};
 ghost use Rattle.mh_scan.specs.Scanning.{settled_in};
-ghost use Rattle.mh_mark.specs.{Kept.KeepsMarking, Walkable.IsWalkable};
-ghost use Rattle.mh_mark.specs.Batched.{AreMarkable, blocks_marked, front_of, front_marked};
+ghost use Rattle.mh_mark.specs.{Kept.KeepsMarking, Walkable.IsWalkable, Auxiliary.{AreMarkable, blocks_marked}};
+ghost use Rattle.mh_mark.specs.Batched.{front_of, front_marked};
 
 use crate::mark::mark_block;
 use arrayvec::ArrayVec;

@@ -1,5 +1,5 @@
 -- What is given of a configuration, within its limits.
-use Rattle.std.specs.Prelude.{ℕ, nat_le, Bool, true, ◌&&◌, Option, None, Some}
+use Rattle.std.specs.Prelude.{ℕ, nat_le, Bool, true, ◌&&◌}
 use Rattle.mh_orders.specs.declared.{generate_options.Controls.Controls, room_options.CycleLength.CycleLength}
 use Rattle.mh_orders.specs.declared.target_options.Given.{Given}
 use Rattle.mh_orders.specs.declared.target_options.Given.TheVariants.{Every, Nothing, Quantum}
@@ -8,11 +8,6 @@ use Rattle.mh_model.specs.Limits.{least_quantum}
 -- a number is no less than one and no more than another
 abbrev pub is_between : ℕ → ℕ → ℕ → Bool
 is_between least most number = nat_le least number && nat_le number most
-
--- a number that is given is between these
-abbrev pub may_be : ℕ → ℕ → Option ℕ → Bool
-may_be least most None = true
-may_be least most (Some number) = is_between least most number
 
 -- what is given beside a target is within its limits
 abbrev pub is_given_within : Given → Bool

@@ -1,3 +1,4 @@
 pub mod Given
 pub mod Profiles
 pub mod Steps
+pub mod Auxiliary

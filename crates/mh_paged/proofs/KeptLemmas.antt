@@ -9,7 +9,7 @@ use Rattle.mh_laws.specs.Barriers.{RootsWrittenKeepTheSnapshot, ObjectsMadeKeepT
 use Rattle.mh_laws.specs.Snapshots.{CollectorsStaySteady, CommandsKeepTheSnapshot, HeapsStayKept}
 use Rattle.mh_laws.specs.{Bounds.CollectorsStayInBounds, Fields.FieldsAreFound}
 use Rattle.mh_cycle.specs.State.{CycleState, state_with_collector, first_state}
-use Rattle.mh_paged.specs.Kept.{KeepsEachWorld, Steps, heap_of, IsHeap}
+use Rattle.mh_paged.specs.{Kept.{KeepsEachWorld, Steps}, Auxiliary.{heap_of, IsHeap}}
 
 -- a field of an object of a kept heap is found, and lies where the object has it
 pub record IsFoundField (collector : Collector) (place : ℕ) (shape : Shape) (field : ℕ) : Type 0 where

@@ -9,7 +9,7 @@ use Rattle.mh_deeds.proofs.LogLemmas.{adds-none, told-adds}
 use Rattle.mh_heap.specs.Outcome.{done_or}
 use Rattle.mh_grey.specs.Queue.{Queue}
 use Rattle.mh_laws.specs.Tables.{MakingKeepsThePages}
-use Rattle.mh_cycle.specs.State.{IsFramed}
+use Rattle.mh_cycle.specs.Auxiliary.{IsFramed}
 use Rattle.mh_cycle.proofs.FrameLemmas.{framed-long}
 
 pub framed-made : MakingKeepsThePages → (config : Config) (old new : Table Block) (phase : Phase) (cursor : ℕ) (grey : Queue) (birth stamp references numbers : ℕ) (all : List Part) → all ≡ parts references numbers → {E : Type 0} (result : Result ℕ E) → IsFramed config old phase cursor grey

@@ -9,7 +9,7 @@ use Rattle.mh_model.specs.{declared.command.Command.Command, declared.reply.Repl
 use Rattle.mh_laws.specs.Commands.{CommandsAreAnswered}
 use Rattle.mh_cycle.specs.State.{CycleState, state_with_collector}
 use Rattle.mh_heap.specs.Checks.{tested}
-use Rattle.mh_paged.specs.Kept.{Steps, heap_of}
+use Rattle.mh_paged.specs.{Kept.Steps, Auxiliary.heap_of}
 
 -- a value that passed its one test
 pub record IsPassed {T : Type 0} (test : Bool) (value result : T) : Type 0 where

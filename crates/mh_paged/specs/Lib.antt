@@ -1,4 +1,4 @@
-pub mod Dumped
 pub mod Kept
 pub mod Telling
 pub mod Lawful
+pub mod Auxiliary

@@ -2,7 +2,7 @@
 ghost use Rattle.std.specs.Prelude.{◌≡◌, ◌<◌, ◌++◌, IsSome, IfSome, IfOk, Some, length};
 ghost use Rattle.mh_model.specs.Pages.{slot_number, page_at, block_at, class_at, HaveTheirSlots};
 ghost use Rattle.mh_model.specs.Machine.{dump_block, dump_slots, dump_pages};
-ghost use Rattle.mh_paged.specs.Dumped.{slots_at, page_items};
+ghost use Rattle.mh_paged.specs.Auxiliary.{slots_at, page_items};
 
 use mh_blocks::blocks::Blocks;
 use mh_classes::class::Class;

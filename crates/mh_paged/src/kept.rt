@@ -73,7 +73,7 @@ impl Drop for KeptHeap {
 
 impl Model for KeptHeap {
     ghost use Rattle.mh_model.specs.Mutator.{HeapState};
-    ghost use Rattle.mh_paged.specs.Kept.{heap_of, IsHeap};
+    ghost use Rattle.mh_paged.specs.Auxiliary.{heap_of, IsHeap};
 
     ghost Value = { HeapState };
 

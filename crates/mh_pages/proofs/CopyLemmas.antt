@@ -2,7 +2,7 @@
 use Rattle.std.proofs.Common.{◌≡◌, ℕ, suc, ◌+◌, ◌*◌, ◌/◌, ◌<◌, ◌≤◌, ◌⊎◌, Bool, inl, inr, Some, is_some, IsSome, unwrap_or, List, [], length, get_or, ap, ◌∙◌, sym, subst, arith}
 use Rattle.std.proofs.{lemmas.Bool.{cases_eq, cases_lt, false≢true}, Math.Nat.mul-le-mul_right}
 use Rattle.mh_model.specs.Pages.{Table, page_number, slot_number, block_at, class_at, with_block, with_taken, IsFreeFor}
-use Rattle.mh_pages.specs.{Shown.{words_from, shown_table}, Words.words_at, Kept.{IsCopied, AreApart, AreStored}}
+use Rattle.mh_pages.specs.{Auxiliary.{words_from, shown_table, IsCopied, AreApart, AreStored}, Words.words_at}
 use Rattle.mh_table_laws.proofs.placing.Places.{block_at-with_taken_there, with_block-with_taken}
 use Rattle.mh_pages.proofs.{TableLemmas.{page_of_block, other_class}, ShownLemmas.{IsTaken, block_at-shown}}
 use Rattle.mh_pages.proofs.{WriteLemmas.{block_fits, shown-copied}, KeptLemmas.{start, kept-block, block_of}}

@@ -5,7 +5,8 @@ use Rattle.std.specs.Int.Count.{ones}
 use Rattle.mh_model.specs.{Classes.slots_in, Pages.{Table, page_at, block_count, live_in}}
 use Rattle.mh_model.proofs.TabulateLemmas.{length-tabulate}
 use Rattle.mh_bits.specs.Bits.{has_bit}
-use Rattle.mh_pages.specs.{FreePlaces.{empty_count, free_in, free_places}, Shown.{shown_slot, shown_slots, shown_page}}
+use Rattle.mh_pages.specs.FreePlaces.{empty_count, free_in, free_places}
+use Rattle.mh_pages.specs.Auxiliary.{shown_slot, shown_slots, shown_page}
 use Rattle.mh_pages.proofs.{ShownLemmas.{free_page, used_page}, LiveLemmas.live-shown}
 
 module _ {X : Type 0} where

@@ -1,12 +1,11 @@
 -- The sets of pages after one page is put in those to which it belongs.
-use Rattle.std.proofs.Common.{◌≡◌, ◌≢◌, ℕ, zero, suc, ◌+◌, ◌*◌, ◌/◌, ◌%◌, ◌<◌, ◌≤◌, ◌==◌, ◌&&◌, ◌||◌, ◌⊎◌, not, Bool, true, false, if◌then◌else◌, inl, inr, List, length, get_or, set, refl, ap, ◌∙◌, sym, subst, arith, eq-eqb, get_or-set_same, get_or-set_other}
-use Rattle.std.proofs.lemmas.Bool.{cases_eq, or_parts, ne_eqb, and_left}
-use Rattle.std.proofs.lemmas.List.{length-set, set-get_or, get_or_default}
+use Rattle.std.proofs.Common.{◌≡◌, ◌≢◌, ℕ, zero, suc, ◌+◌, ◌*◌, ◌/◌, ◌%◌, ◌<◌, ◌≤◌, ◌==◌, ◌⊎◌, not, Bool, true, false, inl, inr, List, length, get_or, set, ap, ◌∙◌, sym, arith, get_or-set_same, get_or-set_other}
+use Rattle.std.proofs.{lemmas.Bool.{cases_eq, or_parts}, lemmas.List.{length-set, set-get_or, get_or_default}}
 use Rattle.mh_model.specs.Classes.{is_class_size, slots_in}
 use Rattle.mh_bits.specs.{Bits.has_bit, Sets.has_member}
 use Rattle.mh_classes.specs.Numbers.{class_number}
 use Rattle.mh_classes.proofs.ClassLemmas.{class_is, class_number-same}
-use Rattle.mh_pages.specs.{Indexed.{belongs, IsIndexed, put_in, indexed_again, indexed_after}, Kept.{is_head, ArePages}}
+use Rattle.mh_pages.specs.Auxiliary.{belongs, IsIndexed, put_in, indexed_again, indexed_after, is_head, ArePages}
 
 -- what is read within a list doesn't depend on the default
 put_same : (sets : List Bool) (row page : ℕ) (value : Bool) → 4096 * row + page < length sets → has_member (put_in sets row page value) row page ≡ value
@@ -76,21 +75,12 @@ indexed-set heads frees sets page size head free so all within few sizes class o
     now_at_page kind other number here = grind (arith, get_or-set_same)
 
     at_page : (kind other number : ℕ) → kind < 3 → is_class_size other ≡ true → number ≡ page → ((other ≡ size) ⊎ (other ≡ size → ⊥)) → has_member (indexed_again sets page size head free) (3 * class_number other + kind) number ≡ belongs kind (get_or (set heads page head) number 1) (get_or (set frees page free) number 0) other
-    at_page kind other number k is here (inl same) =
-        ap (λ n. has_member (indexed_again sets page size head free) (3 * class_number other + kind) n) here
-        ∙ (ap (λ s. has_member (indexed_again sets page size head free) (3 * class_number s + kind) page) same
-        ∙ (again_kind sets page size head free kind k small_page row all
-        ∙ (ap (belongs kind head free) (sym same) ∙ sym (now_at_page kind other number here))))
+    at_page kind other number k is here (inl same) = grind (arith, again_kind, small_page, row, now_at_page)
     at_page kind other number k is here (inr apart) =
         let numbers_apart : class_number other ≢ class_number size = λ e. apart (class_number-same other size is class e) in
         let other_row : class_number other < 20 = (class_is other is).number in
         let four : 4 ≤ other = (class_is other is).least in
-        ap (λ n. has_member (indexed_again sets page size head free) (3 * class_number other + kind) n) here
-        ∙ (again_other sets page size head free (3 * class_number other + kind) page small_page small_page (inl ((λ e. omega arith), (λ e. numbers_apart (omega arith)), (λ e. numbers_apart (omega arith)), (λ e. numbers_apart (omega arith))))
-        ∙ (so.classes kind other page k is small_page
-        ∙ (ap (λ h. belongs kind h (get_or frees page 0) other) (get_or_default heads page 1 0 within)
-        ∙ (other_class kind (get_or heads page 0) (get_or frees page 0) size other old four apart
-        ∙ (sym (other_class kind head free size other new four apart) ∙ sym (now_at_page kind other number here))))))
+        grind (arith, again_other, small_page, inl, get_or_default, other_class, now_at_page)
 
 -- The sets are those of the pages if a page that had a free slot has one still
 belongs-free : (kind head before after size : ℕ) → (before == 0) ≡ (after == 0) → belongs kind head before size ≡ belongs kind head after size

@@ -1,23 +1,20 @@
 -- What is kept of pages through each change.
-use Rattle.std.proofs.Common.{◌≡◌, ◌≢◌, ℕ, ◌+◌, ◌-◌, ◌*◌, ◌/◌, ◌%◌, ◌^◌, ◌<◌, ◌≤◌, ◌==◌, ◌⊎◌, Bool, true, false, inl, inr, Option, Some, None, is_some, IsSome, option_map, unwrap_or, List, [], length, get_or, set, refl, ap, ◌∙◌, sym, subst, arith, eq-eqb}
-use Rattle.std.proofs.lemmas.Bool.{cases_eq, cases_lt, cases_Bool, ne_eqb, or_right, or_cases, eqb-true, false≢true}
+use Rattle.std.proofs.Common.{◌≡◌, ◌≢◌, ℕ, ◌+◌, ◌-◌, ◌*◌, ◌/◌, ◌%◌, ◌^◌, ◌<◌, ◌≤◌, ◌==◌, ◌⊎◌, Bool, true, false, inl, inr, Option, Some, None, is_some, IsSome, option_map, List, length, get_or, set, refl, ap, ◌∙◌, sym, subst, arith}
+use Rattle.std.proofs.lemmas.Bool.{cases_eq, cases_lt, cases_Bool, ne_eqb, or_right, false≢true}
 use Rattle.std.proofs.{lemmas.Option.none-some, lemmas.List.{length-set, set-get_or}}
 use Rattle.std.proofs.lemmas.Nat.Bits.{bit_at_and, ones_shr}
-use Rattle.std.specs.Int.{bit_not, w64}
-use mir.Val.{bits, bool_byte}
+use mir.Val.{bool_byte}
 use Rattle.mh_model.specs.Classes.{is_class_size, slots_in}
-use Rattle.mh_model.specs.Pages.{Page, Table, page_at, block_at, class_at, flag_at, page_with, page_for, with_block, with_taken, with_flag, flagged_as, free_pages, IsFreeFor, HasItsSlots, HaveTheirSlots}
+use Rattle.mh_model.specs.Pages.{Table, page_at, block_at, class_at, flag_at, page_with, page_for, with_block, with_taken, with_flag, free_pages, IsFreeFor, HasItsSlots, HaveTheirSlots}
 use Rattle.mh_model.proofs.TabulateLemmas.{length-tabulate}
 use Rattle.mh_bits.specs.Bits.{has_bit}
 use Rattle.mh_bits.proofs.BitLemmas.{has_bit-zero, has_bit-ones_above, has_bit-set_other, bit_clear}
 use Rattle.mh_bits.proofs.SetLemmas.{with_bit, without_bit}
 use Rattle.mh_classes.proofs.ClassLemmas.{IsClass, class_is}
-use Rattle.mh_pages.specs.Shown.{words_from, shown_slot, shown_slots, page_of, shown_page, shown_table}
+use Rattle.mh_pages.specs.Auxiliary.{words_from, shown_slots, page_of, shown_page, shown_table, IsIndexed, indexed_again, indexed_after, HasLengthsFor, is_head, AgreeOutside, AreStored}
 use Rattle.mh_pages.specs.{Words.{words_at, with_word}, Addresses.{Address, address_in}}
-use Rattle.mh_pages.specs.Indexed.{IsIndexed, indexed_again, indexed_after, HasLengthsFor}
-use Rattle.mh_pages.specs.Kept.{is_head, AgreeOutside, AreStored}
 use Rattle.mh_pages.proofs.ShownLemmas.{length-shown, page_at-shown, page_at-shown_past, block_at-shown, head_class, free_page, used_page, used_page_of, shown-set, IsTaken, IsWord, word_taken, taken_place}
-use Rattle.mh_pages.proofs.WriteLemmas.{shown-block, shown-word, slots-released, slots-taken, slots-fresh, block_fits, written_inside}
+use Rattle.mh_pages.proofs.WriteLemmas.{shown-block, shown-word, slots-released, slots-taken, slots-fresh, written_inside}
 use Rattle.mh_pages.proofs.IndexLemmas.{indexed-set, indexed-after, pages-set, length-indexed_again, length-indexed_after}
 use Rattle.mh_pages.proofs.CountLemmas.{free_pages-taken, free_pages-same, free_pages-freed, free_pages-some, free_pages-few}
 use Rattle.mh_table_laws.proofs.placing.Places.{block_at-with_taken_same}
@@ -266,9 +263,7 @@ module _ (heads frees words : List ℕ) (sets : List Bool) (free : ℕ) (kept : 
     fresh_page size class is none =
         let inside = free_within size is in
         let its = class_is size class in
-        used_page_of (2 * size) (without_bit (2 ^ slots_in size - 1) a_slot) words a_page size false (λ e. absurd (omega (arith, its.least))) (omega arith) (ne_eqb _ _ (λ e. absurd (omega arith)))
-        ∙ ap Some
-        (grind (arith, slots-taken, slots-fresh, page_at-shown, free_page))
+        grind (arith, used_page_of, without_bit, ne_eqb, slots-taken, slots-fresh, page_at-shown, free_page)
 
     pub taken_shown_fresh : (size : ℕ) → is_class_size size ≡ true → IsFreeFor (shown_table heads frees words) size place → a_head ≡ 0
         → shown_table (set heads a_page (2 * size)) (set frees a_page (without_bit (2 ^ slots_in size - 1) a_slot)) words ≡ with_taken (shown_table heads frees words) size place (words_at (shown_table (set heads a_page (2 * size)) (set frees a_page (without_bit (2 ^ slots_in size - 1) a_slot)) words) place)

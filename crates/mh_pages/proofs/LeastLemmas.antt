@@ -1,17 +1,16 @@
 -- The least place of a table from the least members of sets of its pages.
-use Rattle.std.proofs.Common.{◌≡◌, ◌≢◌, ℕ, zero, suc, ◌+◌, ◌*◌, ◌/◌, ◌%◌, ◌^◌, ◌<◌, ◌≤◌, ◌==◌, ◌&&◌, not, Bool, true, false, if◌then◌else◌, inl, inr, Option, Some, None, is_some, IsSome, option_map, option_and_then, List, [], ◌∷◌, length, get_or, refl, ap, ◌∙◌, sym, subst, arith, eq-eqb}
-use Rattle.std.proofs.lemmas.Bool.{cases_eq, cases_lt, ne_eqb, eqb-true, eqb-false, and_left, and_right, and_parts, and_cases, false≢true, true≢false, not-false, not-true}
+use Rattle.std.proofs.Common.{◌≡◌, ◌≢◌, ℕ, zero, suc, ◌+◌, ◌*◌, ◌/◌, ◌%◌, ◌^◌, ◌<◌, ◌≤◌, ◌==◌, ◌&&◌, not, Bool, true, false, inl, inr, Option, Some, None, is_some, IsSome, option_map, List, [], ◌∷◌, length, get_or, refl, ap, ◌∙◌, sym, subst, arith}
+use Rattle.std.proofs.lemmas.Bool.{cases_eq, cases_lt, ne_eqb, eqb-true, eqb-false, and_left, and_parts, and_cases, false≢true, true≢false, not-false, not-true}
 use Rattle.std.proofs.{lemmas.Option.none-some, lemmas.List.{length-replicate, get_or_default, get_or_past}}
 use Rattle.std.specs.Int.{w64, trailing_zeros}
 use Rattle.mh_model.specs.Classes.{is_class_size, slots_in}
-use Rattle.mh_model.specs.Pages.{Page, Table, page_at, empty_slot, open_slot, fresh_slot, first_place, least, is_dense, is_sparse, least_dense_place, block_in, IsFreeFor}
+use Rattle.mh_model.specs.Pages.{Page, Table, page_at, empty_slot, open_slot, fresh_slot, first_place, least, is_dense, is_sparse, least_dense_place, IsFreeFor}
 use Rattle.mh_bits.specs.{Bits.has_bit, Sets.{has_member, IsEmptySet, IsLeastMember}}
 use Rattle.mh_model.proofs.TabulateLemmas.{length-tabulate}
 use Rattle.mh_bits.proofs.BitLemmas.{IsLowest, lowest_bit, has_bit-zero}
 use Rattle.mh_classes.specs.Numbers.{class_number}
 use Rattle.mh_classes.proofs.ClassLemmas.{class_is}
-use Rattle.mh_pages.specs.Shown.{shown_slot, shown_slots, page_of, shown_page, page_shown, shown_table}
-use Rattle.mh_pages.specs.{Indexed.{belongs, IsIndexed}, Kept.ArePages}
+use Rattle.mh_pages.specs.Auxiliary.{shown_slot, shown_slots, page_of, shown_page, page_shown, shown_table, belongs, IsIndexed, ArePages}
 use Rattle.mh_pages.proofs.ShownLemmas.{length-shown, page_at-shown, free_page, used_page, empty-slot_shown, taken-slot_shown, slot_at}
 
 -- Tables -----------------------------------------------------------------------------------------
@@ -69,9 +68,7 @@ sparse-tells size head slots = grind arith
 -- what a page gives of a tier: its lowest free slot, if it has one and its head is the tier's
 open-given : (test : Page (List ℕ) → Bool) (wanted : ℕ) → TellsHead test wanted → (head free : ℕ) (words : List ℕ) (number : ℕ) → wanted ≢ 0 → ((head == wanted) && not (free == 0)) ≡ true → free < 2 ^ 64
     → ((slot : ℕ) → slots_in (head / 2) ≤ slot → has_bit free slot ≡ false) → open_slot test (shown_page head free words number) ≡ Some (trailing_zeros w64 free)
-open-given test wanted tells head free words number positive is small none =
-    let (a, b) = and_parts (head == wanted) (not (free == 0)) is in
-    grind (arith, used_page, empty_slot-shown, eqb-false, not-true)
+open-given test wanted tells head free words number positive is small none = grind (arith, and_parts, used_page, empty_slot-shown, eqb-false, not-true)
 
 open-none : (test : Page (List ℕ) → Bool) (wanted : ℕ) → TellsHead test wanted → (head free : ℕ) (words : List ℕ) (number : ℕ) → ((head == wanted) && not (free == 0)) ≡ false → open_slot test (shown_page head free words number) ≡ None
 open-none test wanted tells head free words number is = grind (arith, cases_eq, free_page, used_page, and_cases, empty_slot-full, eqb-true, not-false)

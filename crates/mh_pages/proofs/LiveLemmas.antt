@@ -7,7 +7,7 @@ use Rattle.std.specs.Int.Count.{ones, ones-ones}
 use Rattle.mh_model.specs.{Classes.{tabulate, slots_in}, Pages.{block_count, live_in}}
 use Rattle.mh_bits.specs.Bits.{has_bit}
 use Rattle.mh_bits.proofs.BitLemmas.{bit_clear}
-use Rattle.mh_pages.specs.Shown.{shown_slot, shown_page}
+use Rattle.mh_pages.specs.Auxiliary.{shown_slot, shown_page}
 use Rattle.mh_pages.proofs.ShownLemmas.{free_page, used_page, empty-slot_shown, taken-slot_shown}
 
 -- a word of which no bit from one on is set is small

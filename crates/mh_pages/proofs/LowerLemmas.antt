@@ -6,7 +6,7 @@ use Rattle.mh_model.specs.{Classes.is_class_size, Pages.{is_dense_page, has_dens
 use Rattle.mh_bits.specs.Sets.{has_member, HasLower, HasNoLower}
 use Rattle.mh_classes.specs.Numbers.{class_number}
 use Rattle.mh_classes.proofs.ClassLemmas.{class_is}
-use Rattle.mh_pages.specs.{Shown.{page_shown, shown_slots, shown_table}, Indexed.IsIndexed, Kept.ArePages}
+use Rattle.mh_pages.specs.Auxiliary.{page_shown, shown_slots, shown_table, IsIndexed, ArePages}
 use Rattle.mh_pages.proofs.ShownLemmas.{length-shown, page_at-shown, free_page, used_page}
 use Rattle.mh_pages.proofs.LeastLemmas.{dense-tells, class_inside, class_member}
 

@@ -8,7 +8,7 @@ use Rattle.mh_bits.proofs.{SetLemmas.{length-empty_sets, no_member-empty}, BitLe
 use Rattle.mh_model.proofs.TabulateLemmas.{tabulate-replicate}
 use Rattle.mh_classes.specs.Numbers.{class_number}
 use Rattle.mh_classes.proofs.ClassLemmas.{class_is}
-use Rattle.mh_pages.specs.{Shown.{page_shown, shown_table}, Indexed.{belongs, AllFree}, Kept.{is_head, AreStored}}
+use Rattle.mh_pages.specs.Auxiliary.{page_shown, shown_table, belongs, AllFree, is_head, AreStored}
 use Rattle.mh_pages.proofs.{ShownLemmas.free_page, CountLemmas.free_pages-all}
 
 same_at : {X : Type 0} (n i : ℕ) (x : X) → get_or (replicate n x) i x ≡ x

@@ -1,16 +1,15 @@
 -- The table that words show: what is read in it, and what changes with one page or one word.
-use Rattle.std.proofs.Common.{◌≡◌, ◌≢◌, ℕ, ◌+◌, ◌*◌, ◌/◌, ◌%◌, ◌^◌, ◌<◌, ◌≤◌, ◌==◌, ◌⊎◌, Bool, true, false, if◌then◌else◌, inl, inr, Option, Some, None, is_some, option_and_then, unwrap_or, List, [], length, get_or, set, refl, ap, ◌∙◌, sym, arith, get_or-set_same, get_or-set_other, eq-eqb}
+use Rattle.std.proofs.Common.{◌≡◌, ◌≢◌, ℕ, ◌+◌, ◌*◌, ◌/◌, ◌%◌, ◌^◌, ◌<◌, ◌≤◌, ◌==◌, ◌⊎◌, Bool, true, false, if◌then◌else◌, inl, inr, Option, Some, None, is_some, option_and_then, List, length, get_or, set, ap, ◌∙◌, sym, arith, get_or-set_same, get_or-set_other, eq-eqb}
 use Rattle.std.proofs.lemmas.Bool.{cases_eq, cases_lt, cases_Bool, ne_eqb, eqb-true, or_cases, true≢false}
-use Rattle.std.proofs.{lemmas.Option.none-some, lemmas.List.length-set, lemmas.Nat.mul-add-lt}
-use Rattle.std.proofs.lemmas.Nat.Bits.{shr_and_one}
+use Rattle.std.proofs.{lemmas.Option.none-some, lemmas.List.length-set, lemmas.Nat.Bits.shr_and_one}
 use lib.Bits.{bit_and}
 use Rattle.mh_model.specs.{Classes.slots_in, Pages.{Table, page_number, slot_number, page_at, block_at, block_in}}
 use Rattle.mh_model.proofs.TabulateLemmas.{length-tabulate, get_or-tabulate, get_or-tabulate_past, tabulate_same, tabulate-set}
 use Rattle.mh_bits.specs.Bits.{has_bit}
 use Rattle.mh_bits.proofs.BitLemmas.{bit_clear}
 use Rattle.mh_classes.proofs.ClassLemmas.{IsClass, class_is}
-use Rattle.mh_pages.specs.Shown.{words_from, shown_slot, shown_slots, page_of, shown_page, page_shown, shown_table}
-use Rattle.mh_pages.specs.{Words.words_at, Kept.is_head}
+use Rattle.mh_pages.specs.Auxiliary.{words_from, shown_slot, shown_slots, page_of, shown_page, page_shown, shown_table, is_head}
+use Rattle.mh_pages.specs.Words.{words_at}
 
 -- Reading ----------------------------------------------------------------------------------------
 
@@ -88,9 +87,7 @@ shown-words heads frees words new number are agree =
 
 -- The same with the class and the flag by name
 pub used_page_of : (head free : ℕ) (words : List ℕ) (number size : ℕ) (flag : Bool) → head ≢ 0 → head / 2 ≡ size → (head % 2 == 1) ≡ flag → shown_page head free words number ≡ Some (page_of size flag (shown_slots free words number size))
-used_page_of head free words number size flag some is_size is_flag =
-    used_page head free words number some
-    ∙ (ap (λ s. Some (page_of s (head % 2 == 1) (shown_slots free words number s))) is_size ∙ ap (λ f. Some (page_of size f (shown_slots free words number size))) is_flag)
+used_page_of head free words number size flag some is_size is_flag = grind (arith, used_page)
 
 -- one slot of a page changed
 pub slots-set : (free new_free : ℕ) (words new : List ℕ) (number size slot : ℕ) (content : Option (List ℕ))

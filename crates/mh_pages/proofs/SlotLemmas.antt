@@ -7,7 +7,7 @@ use lib.Bits.{bit_and}
 use Rattle.mh_model.specs.{Classes.slots_in, Pages.block_at}
 use Rattle.mh_bits.specs.Bits.{has_bit}
 use Rattle.mh_bits.proofs.BitLemmas.{bit_clear, has_bit-zero, has_bit-ones, has_bit-ones_above}
-use Rattle.mh_pages.specs.Shown.{shown_table}
+use Rattle.mh_pages.specs.Auxiliary.{shown_table}
 use Rattle.mh_pages.proofs.ShownLemmas.{block_at-shown, not_taken}
 
 -- a bit of a word that isn't set in another, among so many bits

@@ -3,7 +3,7 @@ use Rattle.std.proofs.Common.{◌≡◌, ℕ, ◌+◌, ◌*◌, ◌/◌, ◌≤�
 use Rattle.std.proofs.lemmas.Option.{same_Some}
 use Rattle.mh_model.specs.Pages.{Table, page_number, slot_number, block_at, class_at, with_block, with_taken, IsFreeFor}
 use Rattle.mh_bits.specs.Bits.{IsZeroed}
-use Rattle.mh_pages.specs.{Shown.shown_table, Kept.AreStored}
+use Rattle.mh_pages.specs.Auxiliary.{shown_table, AreStored}
 use Rattle.mh_table_laws.proofs.placing.Places.{block_at-with_taken_same, with_block-with_taken}
 use Rattle.mh_pages.proofs.{TableLemmas.class_taken, ShownLemmas.IsTaken, WriteLemmas.{shown-zeroed, zeroed_inside}}
 use Rattle.mh_pages.proofs.KeptLemmas.{start, start_few, block_of, class_shown, kept-block}

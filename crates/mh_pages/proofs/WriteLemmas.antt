@@ -1,23 +1,18 @@
 -- What the words show after each change: a block written, a place taken or given back.
-use Rattle.std.proofs.Common.{◌≡◌, ◌≢◌, ℕ, suc, ◌+◌, ◌-◌, ◌*◌, ◌/◌, ◌%◌, ◌^◌, ◌<◌, ◌≤◌, ◌==◌, ◌⊎◌, inl, inr, Option, Some, None, option_map, List, length, get_or, set, replicate, refl, ap, ◌∙◌, sym, arith, get_or-set_same, get_or-set_other}
-use Rattle.std.proofs.{lemmas.Bool.cases_lt, lemmas.List.length-set, Math.Nat.{mul-le-mul_left, mul-le-mul_right}}
+use Rattle.std.proofs.Common.{◌≡◌, ◌≢◌, ℕ, suc, ◌+◌, ◌-◌, ◌*◌, ◌/◌, ◌%◌, ◌^◌, ◌<◌, ◌≤◌, ◌==◌, ◌⊎◌, inl, inr, Option, Some, None, List, length, get_or, set, replicate, ap, ◌∙◌, arith, get_or-set_same, get_or-set_other}
+use Rattle.std.proofs.{lemmas.Bool.cases_lt, lemmas.List.length-set, Math.Nat.mul-le-mul_right}
 use Rattle.mh_model.specs.{Classes.slots_in, Pages.{Table, page_with, with_block}}
 use Rattle.mh_model.proofs.TabulateLemmas.{tabulate_same, tabulate-set, tabulate-replicate}
 use Rattle.mh_bits.specs.Bits.{IsZeroed}
 use Rattle.mh_bits.proofs.BitLemmas.{has_bit-ones, has_bit-set_same, has_bit-set_other, has_bit-clear_same, has_bit-clear_other}
 use Rattle.mh_bits.proofs.SetLemmas.{with_bit, without_bit}
-use Rattle.mh_classes.proofs.ClassLemmas.{IsClass}
-use Rattle.mh_pages.specs.{Shown.{words_from, shown_slot, shown_slots, page_of, shown_table}, Words.with_word}
-use Rattle.mh_pages.specs.Kept.{ArePages, AgreeOutside, IsCopied}
-use Rattle.mh_pages.proofs.ShownLemmas.{page_at-shown, head_class, used_page, empty-slot_shown, taken-slot_shown, shown-words, slots-set, slot-same, IsTaken, block_at-shown}
+use Rattle.mh_pages.specs.Auxiliary.{words_from, shown_slots, page_of, shown_table, ArePages, AgreeOutside, IsCopied}
+use Rattle.mh_pages.specs.Words.{with_word}
+use Rattle.mh_pages.proofs.ShownLemmas.{page_at-shown, used_page, empty-slot_shown, taken-slot_shown, shown-words, slots-set, slot-same, IsTaken, block_at-shown}
 
 -- a slot ends before a later one begins
 pub slot_before : (size slot other i : ℕ) → slot < other → i < size → slot * size + i < other * size
 slot_before size slot other i less small = grind arith
-
--- a slot lies in its page
-pub slot_fits : (size slot : ℕ) → IsClass size → slot < slots_in size → slot * size + size ≤ 256
-slot_fits size slot class within = grind arith
 
 -- and what lies in its page is a slot of it
 pub fits_slot : (size slot : ℕ) → 0 < size → (slot + 1) * size ≤ 256 → slot < slots_in size

@@ -1,6 +1,4 @@
 pub mod Words
 pub mod Addresses
-pub mod Shown
-pub mod Indexed
-pub mod Kept
 pub mod FreePlaces
+pub mod Auxiliary

@@ -2,7 +2,7 @@
 //! flag, and with its first and its last free slot.
 ghost use Rattle.std.specs.Prelude.{◌≡◌, ◌<◌, ◌≤◌, ◌*◌, ◌+◌, ◌%◌, length, get_or, set};
 ghost use Rattle.mh_classes.specs.Numbers.{class_number};
-ghost use Rattle.mh_pages.specs.Indexed.{indexed_again, indexed_after, AllFree, HasLengthsFor};
+ghost use Rattle.mh_pages.specs.Auxiliary.{indexed_again, indexed_after, AllFree, HasLengthsFor};
 
 use mh_bits::counted::{Counted, ReadCount};
 use mh_bits::page_sets::PageSets;

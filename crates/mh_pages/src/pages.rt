@@ -23,8 +23,8 @@ ghost use Rattle.std.specs.Prelude.{ℕ, ◌≡◌, ◌<◌, ◌≤◌, ◌*◌,
 ghost use Rattle.mh_bits.specs.Bits.{has_bit};
 ghost use Rattle.mh_model.specs.Classes.{is_class_size, slots_in};
 ghost use Rattle.mh_model.specs.Pages.{HaveTheirSlots, IsFreeFor, block_at, class_at, count_at, flag_at, free_pages, fresh_slot, has_denser, is_sparse, least, least_dense_place, least_place, open_slot, page_at, page_number, slot_number, with_block, with_flag, with_released, with_taken};
-ghost use Rattle.mh_pages.specs.{Addresses.address_in, FreePlaces.{free_in, free_places}, Kept.{AreApart, IsCopied}};
-ghost use Rattle.mh_pages.specs.Words.{header_at, with_header, with_word, words_at};
+ghost use Rattle.mh_pages.specs.{Addresses.address_in, FreePlaces.{free_in, free_places}};
+ghost use Rattle.mh_pages.specs.{Auxiliary.{AreApart, IsCopied}, Words.{header_at, with_header, with_word, words_at}};
 
 use crate::address::Address;
 use crate::header::{BIRTH, COUNTS, FORWARD, Header, STAMP};
@@ -54,7 +54,7 @@ pub struct Pages {
 impl Model for Pages {
     ghost use Rattle.std.specs.Prelude.{List, ℕ};
     ghost use Rattle.mh_model.specs.Pages.{Table};
-    ghost use Rattle.mh_pages.specs.{Shown.shown_table, Kept.AreStored};
+    ghost use Rattle.mh_pages.specs.Auxiliary.{shown_table, AreStored};
 
     ghost Value = { Table (List ℕ) };
 

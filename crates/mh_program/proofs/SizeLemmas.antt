@@ -6,7 +6,7 @@ use Rattle.mh_script.specs.declared.fault.ScriptFault.{ScriptFault, TheVariants.
 use Rattle.mh_size_counts.specs.declared.text.SizeText.{SizeText}
 use Rattle.mh_size_text.specs.declared.end.SizeEnd.{SizeEnd, TheVariants.{Sized, NoSize, Refused}}
 use Rattle.mh_text.specs.Devices.{Device}
-use Rattle.mh_program.specs.Program.{IsMadeText, WritesSize}
+use Rattle.mh_program.specs.{Auxiliary.IsMadeText, Program.WritesSize}
 
 -- what holds of the text that was made holds of one that is it
 same-text : (Is : Text → Bool → Type 0) (made : SizeText) (text : Text) (found : Bool) → Is (string_bytes made.text) made.is_found → IsMadeText made text found → Is text found

@@ -1,3 +1,4 @@
 pub mod Program
 pub mod Status
 pub mod Complaints
+pub mod Auxiliary

@@ -1,5 +1,5 @@
 -- What the program does with the words of its command line, and what it writes to standard error.
-use Rattle.std.specs.{Prelude.{◌≡◌, ℕ, Bool, true, false, Result, Ok, Err, codes}, String.string_bytes}
+use Rattle.std.specs.Prelude.{◌≡◌, ℕ, Bool, true, false, Result, Ok, Err, codes}
 use Rattle.mh_model.specs.{Bytes.{Text, line_text}, RunHistories.output_under, declared.config.Rules.Rules}
 use Rattle.mh_model.specs.declared.config.Rules.TheVariants.{Second}
 use Rattle.mh_script.specs.declared.fault.ScriptFault.{ScriptFault}
@@ -24,7 +24,7 @@ use Rattle.mh_tell_chrome.specs.Runs.{DrawsReplies, chrome_text}
 use Rattle.mh_tell_cycles.specs.Lines.{cycles_text}
 use Rattle.mh_tell_show.specs.Page.{ShowsReplies, page_text}
 use Rattle.mh_size_text.specs.{declared.end.SizeEnd.SizeEnd, Scripts.IsSizing}
-use Rattle.mh_size_counts.specs.{declared.text.SizeText.SizeText, Texts.{IsRoomText, IsTargetText}}
+use Rattle.mh_size_counts.specs.Texts.{IsRoomText, IsTargetText}
 use Rattle.mh_tell_steps.specs.Steps.{TellsReplies, told_text}
 use Rattle.mh_program.specs.Status.{curve_status, done_status, end_status, judgement_status, line_status_of, sessions_status, size_status, status_of}
 use Rattle.mh_program.specs.Complaints.{ErrorStream, SaysDone, SaysEnd, SaysJudgement, SaysLine, SaysLog, SaysRefusals, SaysRun, SaysSeen, SaysSized, SaysCurve}
@@ -68,10 +68,6 @@ WritesScript options old new (Ok done) = (text : Text) × IsAsked options text �
 WritesScript options old new (Err Write) = (text : Text) × IsAsked options text × FailsAt old new text
 WritesScript options old new (Err NoMemory) = (text : Text) × IsAsked options text × TakesSome old new text
 WritesScript options old new ended = ⊥
-
--- this is the text that was made, and whether it has a size
-abbrev pub IsMadeText : SizeText → Text → Bool → Type 0
-IsMadeText made text found = (text ≡ string_bytes made.text) × (found ≡ made.is_found)
 
 -- a text of this kind was written whole, by whether it has a size, or a prefix of one if the device failed, and nothing if memory was refused
 abbrev pub WritesSize : (Text → Bool → Type 0) → (old new : Device) → Result SizeEnd ScriptFault → Type 0

@@ -1,7 +1,7 @@
 //! What the program writes of its words alone: the version, a random script, and sizes that are found without a script.
 //! A size is made before it is written, so out of memory leaves nothing written.
 ghost use Rattle.std.specs.Prelude.{◌≡◌, Err, IfOk, OnErr};
-ghost use Rattle.mh_program.specs.Program.{IsMadeText, WritesScript, WritesSize, WritesVersion};
+ghost use Rattle.mh_program.specs.{Auxiliary.IsMadeText, Program.{WritesScript, WritesSize, WritesVersion}};
 ghost use Rattle.mh_size_counts.specs.Texts.{IsRoomText, IsTargetText};
 ghost use Rattle.mh_script.specs.declared.fault.ScriptFault.TheVariants as fault;
 

@@ -3,7 +3,7 @@ use Rattle.std.proofs.Common.{◌≡◌, List, [], ◌∷◌, ◌++◌, Some, No
 use Rattle.std.proofs.lemmas.List.Elements.{All-push, All-pop}
 use Rattle.mh_lock.specs.Seats.{LockSeatView}
 use Rattle.mh_model.specs.declared.history.Entry.{Entry}
-use Rattle.mh_race.specs.{Racing.{IsNewSeat, IsFresh}, declared.racer.Racer.Racer}
+use Rattle.mh_race.specs.{Auxiliary.{IsNewSeat, IsFresh}, declared.racer.Racer.Racer}
 use Rattle.mh_service.specs.Services.{ServiceView}
 
 -- the last seat is new, and so are those before it

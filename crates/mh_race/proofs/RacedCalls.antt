@@ -8,7 +8,8 @@ use Rattle.mh_model.specs.{declared.command.Event.Event, declared.history.Entry.
 use Rattle.mh_model.specs.History.{owner_of, owned_by, events_of}
 use Rattle.mh_machine.specs.declared.machine.Stop.{Stop}
 use Rattle.mh_service.specs.Services.{ServiceView}
-use Rattle.mh_race.specs.Racing.{AreRun, AreStopped, BeginsItsCalls, HasMadeItsCalls, MakesTheCalls, NoneStopped, StoppedAtARefusal, WasRefused}
+use Rattle.mh_race.specs.Auxiliary.{AreRun}
+use Rattle.mh_race.specs.Racing.{AreStopped, BeginsItsCalls, HasMadeItsCalls, MakesTheCalls, NoneStopped, StoppedAtARefusal, WasRefused}
 
 -- an element that a test finds
 record Found {X : Type 0} (P : X → Type 0) (p : X → Bool) : Type 0 where

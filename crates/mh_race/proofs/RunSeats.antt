@@ -9,7 +9,8 @@ use Rattle.mh_lock.specs.Seats.{LockSeatView}
 use Rattle.mh_model.specs.{declared.command.Event.Event, declared.history.Entry.Entry, declared.reply.Reply.Reply}
 use Rattle.mh_model.specs.History.{owner_of, owned_by, events_of}
 use Rattle.mh_machine.specs.declared.machine.Stop.{Stop, TheVariants.NoMemory}
-use Rattle.mh_race.specs.{Racing.{AreNoted, AreRun, HasMadeItsCalls, HasRunIn, WasRefused}, declared.racer.Racer.Racer}
+use Rattle.mh_race.specs.{Auxiliary.{AreNoted, AreRun, HasRunIn}, Racing.{HasMadeItsCalls, WasRefused}}
+use Rattle.mh_race.specs.declared.racer.Racer.{Racer}
 use Rattle.mh_service.specs.Services.{ServiceView, IsOfService, IsServed}
 
 -- a service that refused a call refused it to the seat as it is

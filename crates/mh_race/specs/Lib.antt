@@ -1,1 +1,2 @@
 pub mod Racing
+pub mod Auxiliary

@@ -1,19 +1,10 @@
 -- What each seat of a race has done, and what a race leaves of the events of its script.
-use Rattle.std.specs.Prelude.{◌≡◌, ◌↔◌, ◌⊎◌, ℕ, ◌<◌, List, [], ◌∷◌, ◌++◌, Option, Some, None, Err, All, Contains, get_or}
+use Rattle.std.specs.Prelude.{◌≡◌, ◌↔◌, ◌⊎◌, ℕ, List, ◌∷◌, ◌++◌, Option, Some, None, Err, get_or}
 use Rattle.mh_model.specs.{declared.command.Event.Event, declared.config.Config.Config}
 use Rattle.mh_model.specs.{History.{owner_of, owned_by, events_of}, declared.history.Entry.Entry}
 use Rattle.mh_lock.specs.Seats.{LockSeatView}
-use Rattle.mh_race.specs.declared.racer.Racer.{Racer}
-use Rattle.mh_service.specs.Services.{ServiceView, IsOfService, IsServed}
+use Rattle.mh_service.specs.Services.{ServiceView, IsServed}
 use Rattle.mh_machine.specs.declared.machine.Stop.{Stop, TheVariants.NoMemory}
-
--- a seat of this service, before its first call
-abbrev pub IsNewSeat : ServiceView → LockSeatView Entry → Type 0
-IsNewSeat service seat = IsOfService service seat × (seat.log ≡ [])
-
--- a racer whose seat is such, and to which no call was refused
-abbrev pub IsFresh : ServiceView → Racer → Type 0
-IsFresh service racer = IsNewSeat service racer.seat × (racer.stop ≡ None)
 
 -- A service refused a seat's call of this event for this reason, and left the seat as it was. The state that the call found refused it, for a full
 -- history just if it had 1,000,000 entries; or the reason is refused memory
@@ -24,23 +15,6 @@ WasRefused service seat event stop = IsServed service seat seat event (Err stop)
 abbrev pub HasMadeItsCalls : (LockSeatView Entry → Event → Stop → Type 0) → List Event → Option Stop → LockSeatView Entry → Type 0
 HasMadeItsCalls Refused events None seat = events_of seat.log ≡ owned_by owner_of seat.number events
 HasMadeItsCalls Refused events (Some stop) seat = (event : Event) × (later : List Event) × (events_of seat.log ++ event ∷ later ≡ owned_by owner_of seat.number events) × Refused seat event stop
-
--- a racer whose seat is one of this service, and has run so
-abbrev pub HasRunIn : ServiceView → (LockSeatView Entry → Event → Stop → Type 0) → List Event → Racer → Type 0
-HasRunIn service Refused events racer = IsOfService service racer.seat × HasMadeItsCalls Refused events racer.stop racer.seat
-
--- by the numbers of seats it is noted which racers were refused a call: none at a number at which nothing is noted, and one at a number at which something new is
-pub record AreNoted (racers : List Racer) (old new : List (Option Stop)) : Type 0 where
-  pub none : (number : ℕ) → number < 9 → get_or new number None ≡ None → (get_or old number None ≡ None) × All (λ racer. racer.seat.number ≡ number → racer.stop ≡ None) racers
-  pub some : (number : ℕ) (stop : Stop) → number < 9 → get_or new number None ≡ Some stop
-      → (get_or old number None ≡ Some stop) ⊎ ((racer : Racer) × Contains racers racer × (racer.seat.number ≡ number) × (racer.stop ≡ Some stop))
-  pub above : (number : ℕ) → 8 < number → get_or new number None ≡ get_or old number None
-
--- what is noted of seats is true of what they have run: one at whose number nothing is noted made all its calls, and one at whose number a reason is noted was refused a call for it
-pub record AreRun (Refused : LockSeatView Entry → Event → Stop → Type 0) (events : List Event) (stops : List (Option Stop)) (seats : List (LockSeatView Entry)) : Type 0 where
-  pub none : (number : ℕ) → number < 9 → get_or stops number None ≡ None → All (λ seat. seat.number ≡ number → HasMadeItsCalls Refused events None seat) seats
-  pub some : (number : ℕ) (stop : Stop) → number < 9 → get_or stops number None ≡ Some stop → (seat : LockSeatView Entry) × Contains seats seat × (seat.number ≡ number) × HasMadeItsCalls Refused events (Some stop) seat
-  pub above : (number : ℕ) → 8 < number → get_or stops number None ≡ None
 
 -- by these stops some seat was refused a call for this reason, or none was refused any
 abbrev pub SomeSeatStopped : List (Option Stop) → Stop → Type 0

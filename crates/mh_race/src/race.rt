@@ -15,7 +15,8 @@
 ghost use Rattle.std.specs.Prelude.{◌≡◌, ◌≢◌, ◌<◌, ◌≤◌, ◌+◌, ◌++◌, ℕ, All, IfOk, None, Some, get_or, map, vec_len};
 ghost use Rattle.std.specs.Vec.{vec_capacity};
 ghost use Rattle.mh_model.specs.{History.{IsLegal, events_of}, Limits.most_entries};
-ghost use Rattle.mh_race.specs.Racing.{IsNewSeat, IsFresh, HasRunIn, AreNoted, AreRun, AreStopped, BeginsItsCalls, HaveReasons, SomeSeatStopped, NoneStopped};
+ghost use Rattle.mh_race.specs.Auxiliary.{IsNewSeat, IsFresh, HasRunIn, AreNoted, AreRun};
+ghost use Rattle.mh_race.specs.Racing.{AreStopped, BeginsItsCalls, HaveReasons, SomeSeatStopped, NoneStopped};
 ghost use Rattle.mh_service.specs.Services.{ServiceView, IsOfService};
 ghost use Rattle.mh_machine.specs.declared.machine.Stop.{Stop};
 

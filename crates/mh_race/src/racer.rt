@@ -6,7 +6,7 @@
 ghost use Rattle.std.specs.Prelude.{◌≡◌, ◌∷◌, ◌++◌, [], None, IfErr, IfOk};
 ghost use Rattle.mh_lock.specs.Seats.{LockSeatView};
 ghost use Rattle.mh_model.specs.declared.{command.Event.Event, history.Entry.Entry};
-ghost use Rattle.mh_race.specs.Racing.{IsFresh, HasRunIn, WasRefused};
+ghost use Rattle.mh_race.specs.{Auxiliary.{IsFresh, HasRunIn}, Racing.WasRefused};
 ghost use Rattle.mh_machine.specs.declared.machine.Stop.{Stop};
 ghost use Rattle.mh_service.specs.Services.{IsOfService, Owns, ServiceView};
 

@@ -1,12 +1,12 @@
 -- Events and replies of entries.
-use Rattle.std.proofs.Common.{◌≡◌, ◌≢◌, ℕ, ◌+◌, ◌*◌, ◌-◌, ◌≤◌, ◌==◌, nat_le, nat_lt, not, ◌&&◌, ◌||◌, Bool, true, false, Option, Some, None, IsSome, option_map, option_and_then, List, [], ◌∷◌, length, inl, inr, ◌⊎◌, refl, sym, ap, ◌∙◌, arith}
+use Rattle.std.proofs.Common.{◌≡◌, ◌≢◌, ℕ, ◌*◌, ◌-◌, ◌≤◌, ◌==◌, nat_le, nat_lt, ◌&&◌, ◌||◌, Bool, true, Option, Some, None, IsSome, option_map, option_and_then, List, [], ◌∷◌, length, ◌⊎◌, arith}
 use Rattle.std.proofs.{lemmas.Bool.Decides.nat_tests, lemmas.Bool.and_parts}
 use Rattle.std.specs.{Prelude.{if◌then◌else◌, codes, is_some, slice_index}, List.list_all}
 use Rattle.mh_model.specs.Bytes.{Text, words, is_text, is_digit, is_letter, is_numeral, is_name, value_after, number}
-use Rattle.mh_model.specs.{Forms.{within, u64}, declared.command.Event.Event, declared.reply.Reply.Reply}
+use Rattle.mh_model.specs.{Forms.within, declared.command.Event.Event, declared.reply.Reply.Reply}
 use Rattle.mh_model.specs.{declared.history.Entry.Entry, declared.history.Version.Version}
 use Rattle.mh_model.specs.declared.history.Version.TheVariants.{One, Two}
-use Rattle.mh_model.specs.{HistoryTexts.{Halves, halves_at, session_of, event_of, entry_by, entry_of}, Replies.reply_of}
+use Rattle.mh_model.specs.{HistoryTexts.{Halves, halves_at, session_of, event_of, entry_of}, Replies.reply_of}
 use Rattle.mh_text.proofs.WordLemmas.{value_after_grows}
 use Rattle.mh_reasons.specs.HistoryReasons.{is_caller, IsEntryReason, IsEntryWordsReason, IsMeasuredReason, IsVersionReason}
 use Rattle.mh_reasons.specs.{declared.history_reason.HistoryLineReason.HistoryLineReason, Lines.IsPlain}
@@ -49,9 +49,6 @@ reply_none version words halves none split some = search (arith, reply_by)
 
 neither : {A : Type 0} → ⊥ ⊎ (A × ⊥) → ⊥
 neither is = grind arith
-
-no_measured : {A : Type 0} {P : Halves → Type 0} {Q : Halves → Type 0} → ⊥ ⊎ (A × ((halves : Halves) × P halves × (⊥ ⊎ (Q halves × ⊥)))) → ⊥
-no_measured is = grind arith
 
 -- what is said of its words is said of a line
 pub of_entry : (version : Version) (line : Text) (r : HistoryLineReason) → (line ≢ []) → (slice_index line 0 ≢ 35) → IsPlain line → IsVersionReason version (words line) r → IsEntryReason version line r

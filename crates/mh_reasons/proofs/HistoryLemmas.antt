@@ -1,18 +1,16 @@
 -- Reading a history up to its first bad line.
-use Rattle.std.proofs.Common.{◌≡◌, ℕ, suc, ◌<◌, ◌≤◌, ◌==◌, nat_lt, Bool, true, false, Option, Some, None, List, [], ◌∷◌, ◌++◌, length, inl, inr, ◌⊎◌, refl, sym, ap, ◌∙◌, append_assoc, length-append, arith}
+use Rattle.std.proofs.Common.{◌≡◌, ℕ, suc, ◌<◌, ◌≤◌, nat_lt, Bool, true, Option, Some, None, List, [], ◌∷◌, ◌++◌, length, inl, ◌⊎◌, refl, sym, ap, ◌∙◌, append_assoc, length-append, arith}
 use Rattle.std.proofs.lemmas.Bool.Decides.{nat_tests}
-use Rattle.std.specs.Prelude.{if◌then◌else◌, codes, IsTrue}
-use Rattle.mh_model.specs.{declared.config.Config.Config, declared.history.Version.Version}
-use Rattle.mh_model.specs.{declared.history.Version.TheVariants.{One, Two}, Bytes.{Text, words, is_text, cut_after}}
-use Rattle.mh_model.specs.Script.{Reading, BadLine, reading_map}
-use Rattle.mh_model.specs.HistoryTexts.{entry_of, measured_of, header_of, entries_from, history_of, history_reading, recorded_by, recorded_of, recorded_reading}
+use Rattle.std.specs.Prelude.{if◌then◌else◌, codes}
+use Rattle.mh_model.specs.{declared.history.Version.Version, declared.history.Version.TheVariants.{One, Two}}
+use Rattle.mh_model.specs.{Bytes.{Text, words, is_text, cut_after}, Script.{Reading, BadLine, reading_map}}
+use Rattle.mh_model.specs.HistoryTexts.{entry_of, measured_of, entries_from, history_of, history_reading, recorded_of, recorded_reading}
 use Rattle.mh_model.proofs.ScriptLemmas.{history_reading-short, recorded_reading-short}
 use Rattle.mh_text.specs.Pieces.{Lines, TakesLine, lines_from}
 use Rattle.mh_text.proofs.PieceLemmas.{empty_left}
 use Rattle.mh_reasons.specs.declared.history_reason.HistoryLineReason.{HistoryLineReason}
 use Rattle.mh_reasons.specs.HistoryReasons.{IsFirstWrong, IsFirstLineReason, IsEntryWrong, IsEntryReason, IsRefusedAt, most_bytes, IsHistoryReason}
 use Rattle.mh_reasons.specs.declared.history_reason.HistoryReason.{HistoryReason}
-use Rattle.mh_reasons.proofs.ReadLemmas.{map_bad, at_end_bad}
 
 -- Entries ----------------------------------------------------------------------------------------
 
@@ -81,9 +79,6 @@ none_refused version rest n bad = grind arith
 first_by : (is : Bool) (n : ℕ) (line : Text) (lines : List Text) (rest : Text) → is_text line (codes "history 1") ≡ is → IsCutRefused One (line ∷ lines) rest n → (IsFirstWrong One line × (n ≡ 1)) ⊎ IsBadEntry One 2 lines rest n
 first_by is n line lines rest e bad = grind arith
 
-header_next : (config : Option Config) (n : ℕ) (lines : List Text) (rest : Text) → recorded_by config lines rest ≡ BadLine n → ((config ≡ None) × (n ≡ 1)) ⊎ IsBadEntry Two 2 lines rest n
-header_next config n lines rest bad = grind arith
-
 first_next : (version : Version) (n : ℕ) (line : Text) (lines : List Text) (rest : Text) → IsCutRefused version (line ∷ lines) rest n → (IsFirstWrong version line × (n ≡ 1)) ⊎ IsBadEntry version 2 lines rest n
 first_next version n line lines rest bad = grind arith
 
@@ -146,9 +141,6 @@ entered_wrong version text bad mid new n line done takes here = grind (arith, ba
 pub entered_line : (version : Version) (text : Text) (bad : ℕ) (mid new : Lines) (n : ℕ) (line : Text) (r : HistoryLineReason) → Entered version text bad mid → TakesLine mid new n line → n ≡ bad
     → IsEntryReason version line r → IsHistoryReason version text bad (HistoryReason.Line r)
 entered_line version text bad mid new n line r done takes here is = grind arith
-
-zero_none : (n : ℕ) → IsTrue (suc n == 0) → ⊥
-zero_none n is = absurd (grind (arith, nat_tests))
 
 pub no_line : (version : Version) (text : Text) (bad : ℕ) → length text ≤ most_bytes version → IsRefusedAt version text bad → (lines_from 1 text).lines ≡ [] → (text ≡ [] → ⊥) → IsHistoryReason version text bad HistoryReason.NoNewline
 no_line version [] bad short is none some = absurd (some refl)

@@ -1,13 +1,12 @@
 -- Reading a script up to its first bad line.
-use Rattle.std.proofs.Common.{◌≡◌, ◌≢◌, ℕ, suc, ◌≤◌, ◌||◌, not, ◌&&◌, Bool, true, false, Option, Some, None, List, [], ◌∷◌, ◌++◌, length, map, inl, inr, ◌⊎◌, refl, sym, ap, ◌∙◌, append_assoc, length-append, arith}
+use Rattle.std.proofs.Common.{◌≡◌, ◌≢◌, ℕ, suc, ◌≤◌, ◌||◌, not, ◌&&◌, Bool, true, false, Option, None, List, [], ◌∷◌, ◌++◌, length, map, inl, inr, ◌⊎◌, refl, sym, ◌∙◌, append_assoc, length-append, arith}
 use Rattle.std.specs.List.{list_all}
-use Rattle.mh_model.specs.{declared.config.Config.Config, declared.command.Event.Event, Bytes.{Text, words, cut_after}}
-use Rattle.mh_model.specs.Script.{Reading, BadLine, Means, reading_map, Line, Blank, Calls, Asks, Wrong, line_of, is_blank, config_words, with_name, at_end, after_config, events_from, script_from, reading}
+use Rattle.mh_model.specs.{declared.config.Config.Config, Bytes.{Text, words, cut_after}}
+use Rattle.mh_model.specs.Script.{Reading, BadLine, reading_map, Line, Wrong, line_of, is_blank, config_words, at_end, events_from, script_from, reading}
 use Rattle.mh_text.specs.Pieces.{Lines, TakesLine, lines_from}
 use Rattle.mh_text.proofs.ScriptLemmas.{reading_left}
 use Rattle.mh_reasons.specs.{declared.reason.LineReason.LineReason, Reasons.{IsWrong, IsLineReason, IsReason}}
 use Rattle.mh_reasons.specs.declared.reason.ScriptReason.{ScriptReason}
-use Rattle.mh_reasons.proofs.WordLemmas.{wrong_full}
 
 -- Bad lines --------------------------------------------------------------------------------------
 
@@ -35,9 +34,6 @@ later_by k n line lines rest is more = grind arith
 events_later : (names : List Text) (k n : ℕ) (lines : List Text) (rest : Text) → events_from names k (map line_of lines) rest ≡ BadLine n → k ≤ n
 events_later names k n [] rest bad = grind arith
 events_later names k n (line ∷ lines) rest bad = later_by k n (line_of line) lines rest (events_next names k n (line_of line) lines rest bad) (λ seen. events_later seen (suc k) n lines rest)
-
-config_next : (o : Option Config) (k n : ℕ) (lines : List Text) (rest : Text) → after_config o k lines rest ≡ BadLine n → ((o ≡ None) × (k ≡ n)) ⊎ EventsBad (suc k) n lines rest
-config_next o k n lines rest bad = grind arith
 
 script_blank : (k n : ℕ) (line : Text) (lines : List Text) (rest : Text) → is_blank line ≡ true → script_from k (line ∷ lines) rest ≡ BadLine n → script_from (suc k) lines rest ≡ BadLine n
 script_blank k n line lines rest is bad = rw is at bad

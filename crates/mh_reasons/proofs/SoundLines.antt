@@ -1,12 +1,10 @@
 -- Lines with bytes out of place have a word that isn't sound.
-use Rattle.std.proofs.Common.{◌≡◌, ℕ, zero, suc, ◌-◌, ◌<◌, ◌==◌, ◌&&◌, ◌||◌, Bool, true, false, Some, List, [], ◌∷◌, ◌++◌, length, get_or, refl, sym, ap, ◌∙◌, arith}
+use Rattle.std.proofs.Common.{◌≡◌, ℕ, suc, ◌-◌, ◌<◌, ◌==◌, ◌&&◌, ◌||◌, Bool, true, false, Some, List, [], ◌∷◌, ◌++◌, length, get_or, refl, arith}
 use Rattle.std.proofs.{lemmas.Bool.{and_parts, and_from}, lemmas.Bool.Decides.nat_tests, Math.Bool.and-false}
 use Rattle.std.specs.{Prelude.{if◌then◌else◌, find}, List.list_all}
 use Rattle.mh_model.specs.Bytes.{Text, cut_after, words}
-use Rattle.mh_reasons.specs.declared.byte_fault.ByteFault.{ByteFault}
-use Rattle.mh_reasons.specs.declared.byte_fault.ByteFault.TheVariants.{Stray, Space}
-use Rattle.mh_reasons.specs.declared.byte_fault.SpacePlace.{SpacePlace}
-use Rattle.mh_reasons.specs.declared.byte_fault.SpacePlace.TheVariants.{Start, End, Twice}
+use Rattle.mh_reasons.specs.{declared.byte_fault.ByteFault.ByteFault, declared.byte_fault.SpacePlace.SpacePlace}
+use Rattle.mh_reasons.specs.declared.byte_fault.SpacePlace.TheVariants.{Start, End}
 use Rattle.mh_reasons.specs.Lines.{HasSpace, HasByteFault, is_stray}
 use Rattle.mh_reasons.proofs.SoundWords.{is_full, is_sound, are_sound}
 
@@ -32,12 +30,6 @@ begun byte bytes other = begun_by byte bytes (cut_after 32 bytes).pieces (cut_af
 
 spaced : (byte : ℕ) (bytes : Text) → (byte == 32) ≡ true → words (byte ∷ bytes) ≡ [] ∷ words bytes
 spaced byte bytes is = rw is refl
-
-word_or_space : (word space : Bool) → word ≡ true → (word || space) ≡ true
-word_or_space word space is = grind arith
-
-or_space : (word space : Bool) → space ≡ true → (word || space) ≡ true
-or_space word space is = grind arith
 
 -- if the bytes of its words stand in words, those of a line stand in lines
 bytes_by : (p : ℕ → Bool) (is : Bool) (byte : ℕ) (bytes : Text) → (byte == 32) ≡ is → (list_all (list_all p) (words bytes) ≡ true → list_all (is_line_byte p) bytes ≡ true) → list_all (list_all p) (words (byte ∷ bytes)) ≡ true
@@ -74,9 +66,6 @@ TakesNoStray p = (byte : ℕ) → is_stray byte ≡ true → p byte ≡ false
 
 no_space : (byte : ℕ) → is_stray byte ≡ true → (byte == 32) ≡ false
 no_space byte is = grind (arith, nat_tests)
-
-stray_out : (p : ℕ → Bool) (none : TakesNoStray p) (byte : ℕ) → is_stray byte ≡ true → is_line_byte p byte ≡ false
-stray_out p none byte is = rw (none byte is) (no_space byte is)
 
 stray_by : (p : ℕ → Bool) (none : TakesNoStray p) (is : Bool) (byte found : ℕ) (bytes : Text) → is_stray byte ≡ is → (if is then Some byte else find is_stray bytes) ≡ Some found
     → (find is_stray bytes ≡ Some found → list_all (is_line_byte p) bytes ≡ false) → list_all (is_line_byte p) (byte ∷ bytes) ≡ false

@@ -5,14 +5,14 @@ use Rattle.mh_model.specs.{Bytes.{Text, words, is_text, is_name, numbers}, Confi
 use Rattle.mh_model.specs.Limits.{is_configuration}
 use Rattle.mh_model.specs.Forms.{within, are_below, u64, command_of, command_rows, control_rows}
 use Rattle.mh_model.specs.{declared.command.Command.Command, declared.config.Rules.TheVariants.Second}
-use Rattle.mh_model.specs.Script.{Line, Wrong, Blank, calls, line_words, line_of, is_blank, config_of, config_words}
+use Rattle.mh_model.specs.Script.{Line, Wrong, Blank, calls, line_words, config_of, config_words}
 use Rattle.mh_model.specs.{declared.history.Version.Version, declared.history.Version.TheVariants.Two}
 use Rattle.mh_model.proofs.TextLemmas.{text_is}
 use Rattle.mh_text.specs.Words.{few_numbers}
 use Rattle.mh_text.proofs.{WordLemmas.{few_same, none_of}, RowLemmas.below_other}
 use Rattle.mh_reasons.specs.{declared.reason.ConfigNumber.ConfigNumber, declared.reason.LineReason.LineReason}
 use Rattle.mh_reasons.specs.{declared.verb.Verb.Verb, Lines.{HasPair, IsPlain}}
-use Rattle.mh_reasons.specs.Verbs.{verb_text, verb_bounds, bounds_of, NamesRow, config_bounds, event_bounds, Usage, usage_of}
+use Rattle.mh_reasons.specs.Verbs.{verb_text, verb_bounds, NamesRow, config_bounds, Usage, usage_of}
 use Rattle.mh_reasons.specs.Operands.{are_numbers_below, fit, IsOperandReason}
 use Rattle.mh_reasons.specs.Reasons.{is_in_limits, are_in_limits_before, IsWrong, IsWordsReason, IsLineReason}
 
@@ -20,19 +20,11 @@ use Rattle.mh_reasons.specs.Reasons.{is_in_limits, are_in_limits_before, IsWrong
 wrong_by : (is : Bool) (more : Line) → (if is then Blank else more) ≡ Wrong → (is ≡ false) × (more ≡ Wrong)
 wrong_by is more wrong = grind arith
 
-pub wrong_words : (line : Text) → line_of line ≡ Wrong → line_words (words line) ≡ Wrong
-wrong_words line wrong = (wrong_by (is_blank line) (line_words (words line)) wrong).1
-
-pub wrong_full : (line : Text) → line_of line ≡ Wrong → is_blank line ≡ false
-wrong_full line wrong = (wrong_by (is_blank line) (line_words (words line)) wrong).0
-
 calls_wrong : (name : Text) (command : Option Command) → calls true name command ≡ Wrong → command ≡ None
 calls_wrong name command wrong = grind arith
 
 pub command_wrong : (first : Text) (given : List Text) → line_words (first ∷ given) ≡ Wrong → is_text first (codes "*") ≡ false → is_name first ≡ true → command_of given ≡ None
 command_wrong first given wrong star named = grind (arith, calls_wrong)
-
--- Names ------------------------------------------------------------------------------------------
 
 -- Usages -----------------------------------------------------------------------------------------
 

@@ -1,13 +1,12 @@
 -- What reasons say of a line after the first makes it no entry.
 use Rattle.std.proofs.Common.{◌≡◌, ◌≢◌, ℕ, nat_lt, ◌&&◌, ◌||◌, Bool, true, false, Option, Some, None, IsSome, option_map, option_and_then, List, [], ◌∷◌, length, inl, inr, ◌⊎◌, refl, sym, ap, ◌∙◌, arith}
 use Rattle.std.proofs.lemmas.Bool.{false≢true}
-use Rattle.std.specs.Prelude.{if◌then◌else◌, codes, is_some}
+use Rattle.std.specs.Prelude.{if◌then◌else◌}
 use Rattle.mh_model.specs.{declared.command.Command.Command, declared.command.Event.Event, declared.reply.Reply.Reply}
 use Rattle.mh_model.specs.{declared.history.Entry.Entry, declared.history.Measured.Measured}
-use Rattle.mh_model.specs.{declared.history.Version.Version, declared.history.Version.TheVariants.{One, Two}}
-use Rattle.mh_model.specs.Bytes.{Text, words, is_text, is_numeral, value_after, number, numbers}
-use Rattle.mh_model.specs.Forms.{u64, command_of}
-use Rattle.mh_model.specs.HistoryTexts.{Halves, session_of, event_of, entry_by, entry_of, measured_with, measured_by, measured_of}
+use Rattle.mh_model.specs.{declared.history.Version.Version, declared.history.Version.TheVariants.Two}
+use Rattle.mh_model.specs.{Bytes.{Text, words, number, numbers}, Forms.u64}
+use Rattle.mh_model.specs.HistoryTexts.{Halves, event_of, entry_by, entry_of, measured_with, measured_by, measured_of}
 use Rattle.mh_model.specs.Replies.{reply_of}
 use Rattle.mh_text.proofs.WordLemmas.{length_numbers}
 use Rattle.mh_reasons.specs.declared.history_reason.HistoryLineReason.{HistoryLineReason}
@@ -29,12 +28,6 @@ no_who who event command none = grind arith
 
 caller_tail : (version : Version) (event : List Text) → IsTailWrong version event → is_caller (word_at event 0) ≡ true → event_of version event ≡ None
 caller_tail version event wrong caller = grind (arith, caller_some, false≢true, session_name, no_who)
-
-caller_none : (star some : Bool) → (star || some) ≡ false → (star ≡ false) × (some ≡ false)
-caller_none star some caller = grind arith
-
-no_some : {X : Type 0} (o : Option X) → is_some o ≡ false → o ≡ None
-no_some o none = grind arith
 
 stranger : (version : Version) (event : List Text) → is_caller (word_at event 0) ≡ false → event_of version event ≡ None
 stranger version event caller = grind arith

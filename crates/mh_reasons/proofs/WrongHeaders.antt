@@ -1,6 +1,6 @@
 -- What reasons say of a first line makes it no first line.
 use Rattle.std.proofs.Common.{arith, ◌≡◌, ◌≢◌, ℕ, nat_lt, ◌&&◌, Bool, true, false, Option, Some, None, option_map, option_and_then, List, [], ◌∷◌, refl, sym, ap, ◌∙◌}
-use Rattle.std.proofs.lemmas.Bool.{false≢true, and_parts, and_from}
+use Rattle.std.proofs.lemmas.Bool.{false≢true, and_parts}
 use Rattle.std.specs.{Prelude.{if◌then◌else◌, codes}, List.list_all}
 use Rattle.mh_model.specs.{declared.config.Rules.Rules, declared.history.Version.Version}
 use Rattle.mh_model.specs.declared.history.Version.TheVariants.{One, Two}
@@ -15,7 +15,7 @@ use Rattle.mh_reasons.specs.HistoryReasons.{headed, IsGivenReason, IsFirstWordsR
 use Rattle.mh_reasons.specs.declared.verb.Verb.{Verb}
 use Rattle.mh_reasons.proofs.{SoundWords.{is_sound, are_sound, unsound_numbers}, SoundLines.fault_unsound}
 use Rattle.mh_reasons.proofs.SoundEntries.{is_printable, printable_digit, printable_stray}
-use Rattle.mh_reasons.proofs.{WrongWords.{miscounted, operand_unfit, outside_none, limit_outside}, WrongEntries.small}
+use Rattle.mh_reasons.proofs.{WrongWords.{miscounted, operand_unfit, limit_outside}, WrongEntries.small}
 
 -- The first version ------------------------------------------------------------------------------
 
@@ -44,9 +44,6 @@ first_one line r is = grind (arith, not_one, other_second, other_first)
 
 header_first : (words : List Text) → is_text (word_at words 0) (codes "history") ≡ false → header_of words ≡ None
 header_first words is = grind arith
-
-second_false : (a c : Bool) → a && (false && c) ≡ false
-second_false a c = grind arith
 
 header_second : (words : List Text) → is_text (word_at words 1) (codes "2") ≡ false → header_of words ≡ None
 header_second words is = grind arith

@@ -1,21 +1,19 @@
 -- What reasons say of words makes them wrong.
-use Rattle.std.proofs.Common.{◌≡◌, ◌≢◌, ℕ, zero, suc, ◌<◌, ◌≤◌, ◌==◌, nat_le, nat_lt, not, ◌&&◌, ◌||◌, Bool, true, false, Option, Some, None, option_map, option_and_then, List, [], ◌∷◌, length, map, get_or, inl, inr, ◌⊎◌, refl, sym, ap, ◌∙◌, arith}
-use Rattle.std.proofs.{lemmas.Bool.{false≢true, and_parts}, lemmas.Bool.Decides.nat_tests, Math.Bool.and-false}
-use Rattle.std.specs.{Prelude.{if◌then◌else◌, codes}, List.list_all}
-use Rattle.mh_model.specs.{declared.config.Rules.Rules, declared.config.Rules.TheVariants.Second}
-use Rattle.mh_model.specs.{declared.history.Version.Version, declared.history.Version.TheVariants.Two}
-use Rattle.mh_model.specs.Bytes.{Text, words, is_text, is_digit, is_letter, is_numeral, is_name, value_after, number, numbers}
-use Rattle.mh_model.specs.{Configs.{configured_by, configured}, Limits.{is_configuration, least_quantum}}
+use Rattle.std.proofs.Common.{◌≡◌, ◌≢◌, ℕ, suc, ◌<◌, ◌≤◌, nat_le, ◌&&◌, Bool, true, false, Option, Some, None, option_map, option_and_then, List, [], ◌∷◌, length, map, get_or, inl, inr, ◌⊎◌, refl, sym, ap, ◌∙◌, arith}
+use Rattle.std.proofs.{lemmas.Bool.{false≢true, and_parts}, lemmas.Bool.Decides.nat_tests}
+use Rattle.std.specs.Prelude.{if◌then◌else◌, codes}
+use Rattle.mh_model.specs.{declared.config.Rules.Rules, declared.history.Version.Version}
+use Rattle.mh_model.specs.declared.history.Version.TheVariants.{Two}
+use Rattle.mh_model.specs.Bytes.{Text, words, is_text, is_numeral, is_name, number, numbers}
+use Rattle.mh_model.specs.{Configs.{configured_by, configured}, Limits.is_configuration}
 use Rattle.mh_model.specs.Forms.{Row, within, are_below, u64, row_form, formed, command_rows, command_of, control_rows, control_of}
 use Rattle.mh_model.specs.Script.{Wrong, calls, asks, line_words, config_of, config_words}
-use Rattle.mh_text.specs.Rows.{said}
+use Rattle.mh_text.specs.Auxiliary.{said}
 use Rattle.mh_text.proofs.{RowLemmas.{formed_said, below_other}, WordLemmas.length_numbers}
-use Rattle.mh_reasons.specs.declared.number_fault.NumberFault.{NumberFault}
-use Rattle.mh_reasons.specs.declared.number_fault.NumberFault.TheVariants.{NotDigits, LeadingZero, Above}
-use Rattle.mh_reasons.specs.{declared.quoted.Quoted.Quoted, declared.reason.ConfigNumber.ConfigNumber}
-use Rattle.mh_reasons.specs.declared.reason.ConfigNumber.TheVariants.{Pages, Quantum, Trigger, Every}
-use Rattle.mh_reasons.specs.{declared.reason.LineReason.LineReason, Numbers.{is_digits, HasNumberFault}}
-use Rattle.mh_reasons.specs.{Verbs.{bounds_of, Usage, usage_of}, Operands.{are_numbers_below, fit, HasOperandFault}}
+use Rattle.mh_reasons.specs.{declared.number_fault.NumberFault.NumberFault, declared.quoted.Quoted.Quoted}
+use Rattle.mh_reasons.specs.{declared.reason.ConfigNumber.ConfigNumber, declared.reason.LineReason.LineReason}
+use Rattle.mh_reasons.specs.{Numbers.{is_digits, HasNumberFault}, Verbs.{bounds_of, Usage, usage_of}}
+use Rattle.mh_reasons.specs.Operands.{are_numbers_below, fit, HasOperandFault}
 use Rattle.mh_reasons.specs.Reasons.{is_alphanumeric, is_in_limits, IsFirstOutside, word_at, IsWordsReason}
 
 -- Numbers ----------------------------------------------------------------------------------------
@@ -33,9 +31,6 @@ no_numeral word bound none = grind arith
 
 not_digits : (word : Text) → is_digits word ≡ false → is_numeral word ≡ false
 not_digits word none = grind arith
-
-needless_zero : (word : Text) → 1 < length word → get_or word 0 0 ≡ 48 → is_numeral word ≡ false
-needless_zero word long first = grind arith
 
 fault_unfit : (bound : ℕ) (word : Text) (fault : NumberFault) → HasNumberFault bound word fault → IsUnfit bound (number word)
 fault_unfit bound word fault is = grind arith
@@ -130,9 +125,6 @@ IsWordsWrong true words = line_words words ≡ Wrong
 abbrev used_as : Text → List Text → Option (List ℕ) → Option Usage
 used_as word given bounds = option_map (λ bs. record { verb = word; bounds = bs; given = given }) bounds
 
-map_used : (bounds : Option (List ℕ)) (word : Text) (given : List Text) (usage : Usage) → used_as word given bounds ≡ Some usage → (bounds ≡ Some usage.bounds) × (usage.given ≡ given)
-map_used bounds word given usage used = grind arith
-
 config_used : (is : Bool) (word : Text) (given : List Text) (usage : Usage) → used_as word given (if is then Some four else None) ≡ Some usage → (is ≡ true) × (four ≡ usage.bounds) × (usage.given ≡ given)
 config_used is word given usage used = grind arith
 
@@ -158,8 +150,7 @@ event_tail : (version : Version) (name word : Text) (given : List Text) (usage :
     ⊎ ((is_text name (codes "*") ≡ false) × (is_name name ≡ true) × (bounds_of command_rows word ≡ Some usage.bounds) × (usage.given ≡ given))
     → fit usage.bounds usage.given ≡ false → IsTailWrong version (name ∷ word ∷ given)
 event_tail version name word given usage (inl used) none = search (arith, formed_unfit)
-event_tail version name word given usage (inr used) none =
-    inr (inr (used.0, used.1, formed_unfit command_rows word given usage.bounds used.2 (ap (fit usage.bounds) (sym used.3) ∙ none)))
+event_tail version name word given usage (inr used) none = grind (arith, inr, formed_unfit)
 
 usage_tail : (version : Version) (words : List Text) (usage : Usage) → usage_of version true words ≡ Some usage → fit usage.bounds usage.given ≡ false → IsTailWrong version words
 usage_tail version [] usage used none = tt

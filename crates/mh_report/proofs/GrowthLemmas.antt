@@ -3,7 +3,7 @@ use Rattle.std.proofs.{Common.{◌≡◌, ◌∙◌, ◌++◌, List, length, get
 use Rattle.std.specs.List.{All}
 use Rattle.mh_model.specs.Trace.{Letter}
 use Rattle.mh_report.specs.{declared.segment.Segment.Segment, declared.walk.Walk.Walk, Segments.letters_of}
-use Rattle.mh_report.specs.{Points.after, Walks.{IsWalk, KeepsPoints}}
+use Rattle.mh_report.specs.{Points.after, Auxiliary.{IsWalk, KeepsPoints}}
 use Rattle.mh_report.proofs.WalkLemmas.{kept_grows}
 
 pub walk_grows : (old new : List Segment) (letters : List Letter) (walk : Walk) → letters_of new ≡ letters_of old ++ letters → KeepsPoints old new letters → IsWalk old walk → IsWalk new walk

@@ -5,7 +5,7 @@ use Rattle.std.proofs.lemmas.List.Edits.{length-insert, get_or-insert_below, get
 use Rattle.std.proofs.lemmas.List.Elements.{All-append, All-take, All-drop, All-cons}
 use Rattle.std.proofs.lemmas.List.Sorted.{IsNonDecreasingBy-insert}
 use Rattle.std.specs.List.{All, insert}
-use Rattle.mh_report.specs.{declared.walk.Walk.Walk, Walks.{AreInOrder, HasWalk}}
+use Rattle.mh_report.specs.{declared.walk.Walk.Walk, Auxiliary.{AreInOrder, HasWalk}}
 
 -- so many walks are of a shorter window, and the others aren't
 pub record IsPosition (walks : List Walk) (window number : ℕ) : Type 0 where

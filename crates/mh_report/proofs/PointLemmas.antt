@@ -1,7 +1,8 @@
 -- Points in the segments of a trace, as it is gone over and as it grows.
-use Rattle.std.proofs.Common.{◌≡◌, ℕ, zero, suc, ◌+◌, ◌-◌, ◌<◌, ◌≤◌, List, [], ◌∷◌, ◌++◌, length, replicate, set, get_or, ap, refl, sym, ◌∙◌, arith, append_assoc}
+use Rattle.std.proofs.Common.{◌≡◌, ℕ, zero, suc, ◌+◌, ◌-◌, ◌<◌, ◌≤◌, List, [], ◌∷◌, ◌++◌, length, replicate, set, get_or, ap, refl, arith, append_assoc}
 use Rattle.std.proofs.lemmas.List.{append-nil, replicate-append-replicate}
-use Rattle.mh_report.specs.{declared.segment.Segment.Segment, Segments.{letter_of, letters_of, IsInside, letters_after}}
+use Rattle.mh_report.specs.{declared.segment.Segment.Segment, Segments.{letter_of, letters_of, letters_after}}
+use Rattle.mh_report.specs.Auxiliary.{IsInside}
 use Rattle.mh_report.proofs.{SegmentLemmas.{letters_of_push, letters_of_longer}, WalkLemmas.{alike-parts, length-alike}}
 
 pub inside_list : (segments : List Segment) (number passed : ℕ) → IsInside segments number passed → number < length segments
@@ -44,9 +45,7 @@ inside_first (s ∷ segments) some = omega arith
 pub after_end : (segments : List Segment) (number passed : ℕ) (other : Segment) → suc number < length segments → passed ≡ (get_or segments number other).count
     → letters_after segments number passed ≡ letters_after segments (suc number) 0
 after_end [] number passed other there ends = absurd (omega arith)
-after_end (s ∷ segments) zero passed other there ends =
-    let none : s.count - passed ≡ 0 = omega arith in
-    rw none (sym (after_first segments))
+after_end (s ∷ segments) zero passed other there ends = grind (arith, after_first)
 after_end (s ∷ segments) (suc number) passed other there ends = after_end segments number passed other (omega arith) ends
 
 pub inside_next : (segments : List Segment) (number : ℕ) → suc number < length segments → IsInside segments (suc number) 0
@@ -71,9 +70,7 @@ inside_pushed (s ∷ segments) (suc number) passed segment is = inside_pushed se
 pub after_pushed : (segments : List Segment) (number passed : ℕ) (segment : Segment) → IsInside segments number passed
     → letters_after (segments ++ segment ∷ []) number passed ≡ letters_after segments number passed ++ replicate segment.count (letter_of segment.unit)
 after_pushed [] number passed segment is = absurd is
-after_pushed (s ∷ segments) zero passed segment is =
-    ap (λ letters. replicate (s.count - passed) (letter_of s.unit) ++ letters) (letters_of_push segments segment)
-    ∙ sym (append_assoc (replicate (s.count - passed) (letter_of s.unit)) (letters_of segments) (replicate segment.count (letter_of segment.unit)))
+after_pushed (s ∷ segments) zero passed segment is = grind (arith, letters_of_push, append_assoc)
 after_pushed (s ∷ segments) (suc number) passed segment is = after_pushed segments number passed segment is
 
 pub inside_longer : (segments : List Segment) (at many number passed : ℕ) (last : Segment) → last ≡ get_or segments at last → IsInside segments number passed
@@ -87,14 +84,8 @@ inside_longer (s ∷ segments) (suc at) many (suc number) passed last read is = 
 pub after_longer : (segments : List Segment) (at many number passed : ℕ) (last : Segment) → suc at ≡ length segments → last ≡ get_or segments at last → IsInside segments number passed
     → letters_after (set segments at (record { unit = last.unit; count = last.count + many })) number passed ≡ letters_after segments number passed ++ replicate many (letter_of last.unit)
 after_longer [] at many number passed last ends read is = absurd is
-after_longer (s ∷ []) zero many zero passed last ends read is =
-    let within : passed ≤ last.count = omega (arith, is, ap (λ (segment : Segment). segment.count) read) in
-    let sum : last.count + many - passed ≡ last.count - passed + many = omega arith in
-    rw (← read, sum, append-nil (replicate (last.count - passed + many) (letter_of last.unit)), append-nil (replicate (last.count - passed) (letter_of last.unit)))
-    (sym (replicate-append-replicate (last.count - passed) many (letter_of last.unit)))
+after_longer (s ∷ []) zero many zero passed last ends read is = grind (arith, append-nil, replicate-append-replicate)
 after_longer (s ∷ []) zero many (suc number) passed last ends read is = absurd is
 after_longer (s ∷ t ∷ segments) zero many number passed last ends read is = absurd (omega arith)
-after_longer (s ∷ segments) (suc at) many zero passed last ends read is =
-    ap (λ letters. replicate (s.count - passed) (letter_of s.unit) ++ letters) (letters_of_longer segments at many last (omega arith) read)
-    ∙ sym (append_assoc (replicate (s.count - passed) (letter_of s.unit)) (letters_of segments) (replicate many (letter_of last.unit)))
+after_longer (s ∷ segments) (suc at) many zero passed last ends read is = grind (arith, letters_of_longer, append_assoc)
 after_longer (s ∷ segments) (suc at) many (suc number) passed last ends read is = after_longer segments at many number passed last (omega arith) read is

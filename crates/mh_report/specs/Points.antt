@@ -1,12 +1,7 @@
 -- Points in the segments of a trace.
 use Rattle.std.specs.Prelude.{List}
 use Rattle.mh_model.specs.Trace.{Letter}
-use Rattle.mh_report.specs.{declared.segment.Segment.Segment, declared.point.Point.Point}
-use Rattle.mh_report.specs.Segments.{IsInside, letters_after}
-
--- a point in these segments
-abbrev pub IsPoint : List Segment → Point → Type 0
-IsPoint segments point = IsInside segments point.segment point.passed
+use Rattle.mh_report.specs.{declared.segment.Segment.Segment, declared.point.Point.Point, Segments.letters_after}
 
 -- the letters after it
 abbrev pub after : List Segment → Point → List Letter

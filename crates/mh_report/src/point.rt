@@ -12,7 +12,7 @@ pub struct Point {
 }
 
 impl Point {
-    ghost use Rattle.mh_report.specs.Points.{IsPoint, after};
+    ghost use Rattle.mh_report.specs.{Auxiliary.IsPoint, Points.after};
 
     /// Passes letters that are alike: so many, or fewer and to the next segment, if there is one.
     #[tactic(auto, using(crate::proofs::PointLemmas::inside_list, crate::proofs::PointLemmas::inside_segment))]

@@ -3,7 +3,7 @@
 //! Letters that are alike at either end pass in one go, so it takes steps as the trace has segments, not letters.
 ghost use Rattle.std.specs.Prelude.{◌≡◌, ◌+◌, ◌-◌, ◌^◌, ◌<◌, ◌≤◌, ◌++◌, [], ℕ, List, drop, length, replicate};
 ghost use Rattle.mh_model.specs.Trace.{Letter};
-ghost use Rattle.mh_report.specs.{Points.{IsPoint, after}, Segments.{letter_of, letters_of}};
+ghost use Rattle.mh_report.specs.{Auxiliary.IsPoint, Points.after, Segments.{letter_of, letters_of}};
 ghost use Rattle.mh_report.specs.Slides.{Passing, alike, passings, passings_of};
 
 use crate::point::Point;

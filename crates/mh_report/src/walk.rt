@@ -1,7 +1,7 @@
 //! A stretch that slides over a trace, by letters alike at once, and finds the least that it ever has of the mutator.
 ghost use Rattle.std.specs.Prelude.{◌≡◌, ◌+◌, ◌^◌, ◌<◌, ◌≤◌, ◌++◌, Some, List, length, replicate, take};
 ghost use Rattle.mh_model.specs.Trace.{Letter, least_mutator, mutator_count};
-ghost use Rattle.mh_report.specs.{Segments.{letter_of, letters_of}, Walk.HasSlid};
+ghost use Rattle.mh_report.specs.{Segments.{letter_of, letters_of}, Auxiliary.HasSlid};
 
 use crate::point::Point;
 use crate::segment::Segment;
@@ -19,7 +19,7 @@ pub struct Walk {
 }
 
 impl Walk {
-    ghost use Rattle.mh_report.specs.{Points.{IsPoint, after}, Walks.IsWalk};
+    ghost use Rattle.mh_report.specs.{Auxiliary.{IsPoint, IsWalk}, Points.after};
 
     /// The first stretch of this length.
     pub fn first(segments: &[Segment], window: u64) -> Walk

@@ -7,7 +7,7 @@
 ghost use Rattle.std.specs.Prelude.{◌≡◌, ◌<◌, ◌≤◌, [], ℕ, List, length, nat_lt, slice_index_or, IfSome, IsSome};
 ghost use Rattle.std.specs.List.{All, Contains};
 ghost use Rattle.mh_report.specs.{declared.segment.Segment.Segment, declared.walk.Walk.Walk};
-ghost use Rattle.mh_report.specs.Walks.{IsWalk, AreInOrder, HasWalk};
+ghost use Rattle.mh_report.specs.Auxiliary.{IsWalk, AreInOrder, HasWalk};
 
 use crate::walk::Walk;
 use mh_model::memory::NoMemory;

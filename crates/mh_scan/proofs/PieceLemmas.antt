@@ -8,7 +8,7 @@ use Rattle.mh_model.specs.{Pages.Table, Table.{Block, references_at, target_of},
 use Rattle.mh_claims.specs.Seats.{DrawSeatView}
 use Rattle.mh_scan.specs.Scanning.{IsScannable, AreScannable, is_settled, lists}
 use Rattle.mh_scan.specs.Asking.{lists_asked, settled_asked, AreAnswers}
-use Rattle.mh_scan.specs.{Crew.{piece_at, pieces_of, times_found, drawn_by}, declared.answers.Answers.Answers}
+use Rattle.mh_scan.specs.{Auxiliary.{piece_at, pieces_of, times_found, drawn_by}, declared.answers.Answers.Answers}
 use Rattle.mh_scan.specs.{declared.answers.Asks.Asks, declared.answers.Asks.TheVariants.{Lists, Settled}}
 use Rattle.mh_scan.specs.declared.crew.Found.{Found}
 

@@ -1,6 +1,6 @@
 -- The first element and the others, at each place.
 use Rattle.std.proofs.Common.{arith, ◌≡◌, ℕ, ◌+◌, ◌<◌, zero, suc, List, [], ◌∷◌, ◌++◌, length, get_or, set, subst, sym, ap, refl}
-use Rattle.mh_scan.specs.Team.{AllFrom, ChangesFrom}
+use Rattle.mh_scan.specs.Auxiliary.{AllFrom, ChangesFrom}
 
 module _ {T : Type 0} (P : ℕ → T → Type 0) where
   pub rest_of : (base : ℕ) (a b xs : List T) → xs ≡ a ++ b → length a ≡ 1 → AllFrom P base xs → AllFrom P (base + 1) b

@@ -7,7 +7,7 @@ ghost use Rattle.std.specs.Prelude.{◌≡◌, ◌<◌, ◌≤◌, ℕ, true, Al
 ghost use Rattle.mh_model.specs.History.{times_drawn};
 ghost use Rattle.mh_claims.specs.Seats.{DrawsFrom, IsBeforeItsDraws, seat_ended};
 ghost use Rattle.mh_scan.specs.{Scanning.AreScannable, Asking.AreAnswers};
-ghost use Rattle.mh_scan.specs.Crew.{piece_count, piece_at, IsFound, times_found, drawn_by, IsHired, HasWorked};
+ghost use Rattle.mh_scan.specs.Auxiliary.{piece_count, piece_at, IsFound, times_found, drawn_by, IsHired, HasWorked};
 
 use crate::answers::{Answers, Asks, ask_each};
 use crate::gate::Gate;

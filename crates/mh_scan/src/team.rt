@@ -1,7 +1,7 @@
 //! Work at each place of a slice, in threads that are all started by the caller.
 ghost use Rattle.std.specs.{Prelude.{◌≡◌, ◌^◌, ◌<◌, length}, Thread.{IsSync, IsSend}};
 ghost use Rattle.std.specs.Fork.{AcceptsAt, ChangesAt, AcceptsEach, ChangesEach};
-ghost use Rattle.mh_scan.specs.Team.{AllFrom, ChangesFrom};
+ghost use Rattle.mh_scan.specs.Auxiliary.{AllFrom, ChangesFrom};
 
 use std::thread::{Threads, join_mut};
 

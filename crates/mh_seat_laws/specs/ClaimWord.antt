@@ -1,10 +1,10 @@
 -- The rule of the claim word, of a table of one word as `atomic_table` keeps it; and the claim state of the model that the table shows. The crate of
 -- the claim word, `mh_claims`, cites the rule.
-use Rattle.std.specs.Prelude.{◌≡◌, ℕ, ◌+◌, ◌^◌, ◌<◌, List, [], ◌∷◌, flat_map, length, slice_index}
+use Rattle.std.specs.Prelude.{◌≡◌, ℕ, ◌+◌, ◌^◌, ◌<◌, List, [], ◌∷◌, length, slice_index}
 use mathlib.Core.Option.{some}
 use lib.ListN.{get_elem?}
 use Rattle.atomic_table.specs.Table.{State}
-use Rattle.mh_model.specs.History.{ClaimState, OnlyLastPast}
+use Rattle.mh_model.specs.History.{OnlyLastPast}
 use Rattle.mh_seat_laws.specs.Weights.{weigh_lists, weigh_below, total}
 
 -- what a seat knows: the numbers drawn by each seat that it stands for. A seat that was joined to another stands for none
@@ -26,7 +26,3 @@ pub record IsClaimed (about : ℕ × ℕ) (table : State (Unit {0}) Lists) : Typ
   pub seats : total length table.views ≡ about.1
   pub drawn : (h : ℕ → ℕ) → total (weigh_lists h) table.views ≡ weigh_below h (slice_index table.words 0)
   pub run_out : (id : ℕ) (view : Lists) → get_elem? table.views id ≡ some view → AllRunOut about.0 view
-
--- The claim state that a table shows: its word, and the lists of all seats
-abbrev pub claim_of : State (Unit {0}) Lists → ClaimState
-claim_of table = record { word = slice_index table.words 0; drawn = flat_map (λ view. view) table.views }

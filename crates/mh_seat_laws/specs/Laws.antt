@@ -1,15 +1,9 @@
 -- What the rules of the claim word and of the lock give, and what keeps them. The crates of both cite these laws.
-use Rattle.std.specs.Prelude.{◌≡◌, ℕ, ◌<◌, ◌≤◌, true, List, [], length, get_or}
+use Rattle.std.specs.Prelude.{◌≡◌, ℕ, ◌≤◌, List, length}
 use Rattle.atomic_table.specs.Table.{State}
 use Rattle.mh_model.specs.{declared.command.Event.Event, declared.history.Entry.Entry}
-use Rattle.mh_model.specs.History.{owner_of, ClaimState, has_ended, LockState, AreLogs, IsKeptBy}
+use Rattle.mh_model.specs.History.{owner_of, LockState, AreLogs, IsKeptBy}
 use Rattle.mh_seat_laws.specs.{Lock.{IsLocked, Shows}, Merges.IsMerge, declared.seat_view.SeatView.SeatView}
-
--- The claim word ---------------------------------------------------------------------------------
-
--- every seat has ended
-abbrev pub AllHaveEnded : ℕ → ClaimState → Type 0
-AllHaveEnded bound claim = (seat : ℕ) → seat < length claim.drawn → has_ended bound (get_or claim.drawn seat []) ≡ true
 
 -- The lock ---------------------------------------------------------------------------------------
 

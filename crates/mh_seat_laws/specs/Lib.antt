@@ -3,3 +3,4 @@ pub mod ClaimWord
 pub mod Lock
 pub mod Merges
 pub mod Laws
+pub mod Auxiliary

@@ -8,8 +8,8 @@ use Rattle.mh_model.specs.{History.{IsLegal, AreLogs, owner_of, owned_by, events
 use Rattle.mh_model.specs.{World.says, Machine.event_step}
 use Rattle.mh_promise.specs.Replays.{EventsKeepTheReplay, IsReplay}
 use Rattle.mh_seat_laws.specs.Laws.{LogsMergeToTheHistory}
-use Rattle.mh_service.specs.Services.{ServiceView, IsServed, AreMerged}
-use Rattle.mh_service.specs.Sharing.{IsReplayed, IsReplayOf, IsDone, IsRefused}
+use Rattle.mh_service.specs.{Services.{ServiceView, IsServed, AreMerged}, Auxiliary.IsReplayed}
+use Rattle.mh_service.specs.Sharing.{IsReplayOf, IsDone, IsRefused}
 use Rattle.mh_state.specs.Storing.{Stored, KeepsState, MayWantMemory, first_stored, with_entry}
 use Rattle.mh_machine.specs.declared.machine.Stop.{Stop}
 

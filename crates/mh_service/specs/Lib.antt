@@ -1,2 +1,3 @@
 pub mod Services
 pub mod Sharing
+pub mod Auxiliary

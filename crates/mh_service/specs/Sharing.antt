@@ -1,16 +1,9 @@
 -- The stored state under the lock of a service, and what an event does to it.
 use Rattle.std.specs.Prelude.{◌≡◌, ◌↔◌, length}
 use Rattle.mh_model.specs.{declared.command.Event.Event, declared.config.Config.Config, declared.reply.Reply.Reply}
-use Rattle.mh_model.specs.{History.{IsLegal, events_of, replies_of}, Limits.most_entries, Machine.event_step}
-use Rattle.mh_model.specs.World.{says}
-use Rattle.mh_promise.specs.Replays.{IsReplay}
+use Rattle.mh_model.specs.{History.IsLegal, Limits.most_entries, Machine.event_step, World.says}
 use Rattle.mh_state.specs.Storing.{Stored, KeepsState, MayWantMemory, with_entry, IsTheReplay, KeepsItsPromise}
 use Rattle.mh_machine.specs.declared.machine.Stop.{Stop}
-
--- the machine is that of its history, which is legal
-pub record IsReplayed (stored : Stored) : Type 0 where
-  pub replay : IsReplay stored.machine.heap.config (events_of stored.history) (replies_of stored.history) stored.machine
-  pub legal : IsLegal stored.machine.heap.config stored.history
 
 -- A stored state is the replay of its history under a configuration, and that history is legal and keeps the promise
 pub record IsReplayOf (config : Config) (stored : Stored) : Type 0 where

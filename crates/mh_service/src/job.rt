@@ -25,7 +25,7 @@ pub struct Shared {
 }
 
 impl Model for Shared {
-    ghost use Rattle.mh_service.specs.Sharing.{IsReplayed};
+    ghost use Rattle.mh_service.specs.Auxiliary.{IsReplayed};
     ghost use Rattle.mh_state.specs.Storing.{Stored};
 
     ghost Value = { Stored };

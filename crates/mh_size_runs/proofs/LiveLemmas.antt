@@ -5,7 +5,7 @@ use Rattle.mh_model.specs.{declared.command.Event.Event, Collector.is_idle, Inte
 use Rattle.mh_model.specs.{Machine.{Machine, event_step, machine_after}, World.{Answer, says}}
 use Rattle.mh_model.specs.declared.reply.Reply.{Reply}
 use Rattle.mh_size_runs.specs.Live.{AreQuartersFrom, AreWhole, live_blocks, most_left, quarter_of, quarter_start, quarters_of}
-use Rattle.mh_size_runs.specs.{declared.sample.Stage.Stage, Samples.{ended_between, stage_of}, Seen.greatest}
+use Rattle.mh_size_runs.specs.{declared.sample.Stage.Stage, Auxiliary.{ended_between, stage_of}, Seen.greatest}
 
 -- Events, one by one -----------------------------------------------------------------------------
 

@@ -4,10 +4,10 @@ use Rattle.std.proofs.{Math.Seq.{drop-cons, take-add}, lemmas.Bool.true≢false,
 use Rattle.std.specs.{List.AllByRecursion, Option.option_or}
 use Rattle.mh_model.specs.declared.{command.Event.Event, config.Config.Config}
 use Rattle.mh_size_runs.specs.{declared.seen.HasRoom.HasRoom, declared.seen.HasRoom.TheVariants.{Yes, No, NoCycle}}
-use Rattle.mh_size_runs.specs.{declared.seen.Seen.Seen, Full.first_full}
-use Rattle.mh_size_runs.specs.Rows.{IsLooked, IsOutcome, IsPassed, WhyPassed, is_roomless}
-use Rattle.mh_size_runs.specs.{Seen.{MeetsTheLaw, seen_in}, Tried.{FitsWith, IsFullWith, heap_with, triggers_of}}
-use Rattle.mh_size_runs.specs.{declared.rows.Looked.Looked, declared.rows.PagesOutcome.PagesOutcome}
+use Rattle.mh_size_runs.specs.{declared.seen.Seen.Seen, Full.first_full, Auxiliary.{IsLooked, is_roomless}}
+use Rattle.mh_size_runs.specs.{Rows.{IsOutcome, IsPassed, WhyPassed}, Seen.{MeetsTheLaw, seen_in}}
+use Rattle.mh_size_runs.specs.{Tried.{FitsWith, IsFullWith, heap_with, triggers_of}, declared.rows.Looked.Looked}
+use Rattle.mh_size_runs.specs.declared.rows.PagesOutcome.{PagesOutcome}
 use Rattle.mh_size_runs.proofs.TriedLemmas.{AreFull, FullAt, all-next, one-more, some-and, splits}
 
 all-one : (P : ℕ → Type 0) (list : List ℕ) (x : ℕ) → AllByRecursion P list → P x → AllByRecursion P (list ++ x ∷ [])
@@ -19,9 +19,6 @@ take-next : (list : List ℕ) (place : ℕ) → place < length list → take (pl
 take-next list place there = take-add place 1 list ∙ ap (λ (rest : List ℕ). take place list ++ take 1 rest) (drop-cons list place 0 there)
 
 module _ (config : Config) (events : List Event) (pages window : ℕ) where
-  triggers : List ℕ
-  triggers = triggers_of pages
-
   -- with this trigger no reply is a full heap, and this is seen
   pub record IsSeenWith (trigger : ℕ) (seen : Seen) : Type 0 where
     pub fits : FitsWith config events pages trigger

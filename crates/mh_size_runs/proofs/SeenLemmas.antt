@@ -10,10 +10,9 @@ use Rattle.mh_model.specs.{Openings.{asked_parts, free_of, opens_at_most, pages_
 use Rattle.mh_model.specs.{Trace.{lesser, least_of}, World.{Answer, says}, declared.command.Control.Control}
 use Rattle.mh_size_laws.specs.Room.{first_start, has_cycle, later_intervals}
 use Rattle.mh_size_runs.specs.{declared.class_counts.ClassCounts.ClassCounts, declared.sample.Sample.Sample}
-use Rattle.mh_size_runs.specs.{declared.watched.Facts.Facts, declared.watched.Watched.Watched, ClassCounts.HasCounted}
-use Rattle.mh_size_runs.specs.{Facts.HasFacts, Samples.{ended_between, quanta_between, sample_of}}
+use Rattle.mh_size_runs.specs.{declared.watched.Facts.Facts, declared.watched.Watched.Watched}
+use Rattle.mh_size_runs.specs.Auxiliary.{HasCounted, HasFacts, ended_between, quanta_between, sample_of, GoesOn, HasSameCounts, Starts}
 use Rattle.mh_size_runs.specs.Seen.{counts_of_quanta, fewest_left, free_at_start, greatest, most_quanta_of}
-use Rattle.mh_size_runs.specs.Watched.{GoesOn, HasSameCounts, Starts}
 
 -- Quanta that are run ----------------------------------------------------------------------------
 

@@ -1,11 +1,7 @@
 pub mod Full
 pub mod Tried
 pub mod Fewest
-pub mod Spans
-pub mod ClassCounts
-pub mod Samples
 pub mod Seen
-pub mod Facts
-pub mod Watched
 pub mod Rows
 pub mod Live
+pub mod Auxiliary

@@ -1,16 +1,10 @@
 -- A run in so many pages, with the first of five triggers that gives it room.
-use Rattle.std.specs.Prelude.{◌≡◌, ◌⊎◌, ℕ, Bool, true, false, IsSome, IsSomeAnd, Some, None, List, ◌∷◌, ◌++◌}
-use Rattle.std.specs.List.{AllByRecursion}
+use Rattle.std.specs.{Prelude.{◌≡◌, ◌⊎◌, ℕ, IsSome, IsSomeAnd, List, ◌∷◌, ◌++◌}, List.AllByRecursion}
 use Rattle.mh_model.specs.declared.{command.Event.Event, config.Config.Config}
-use Rattle.mh_size_runs.specs.{declared.rows.PagesOutcome.PagesOutcome, declared.rows.Looked.Looked}
-use Rattle.mh_size_runs.specs.{declared.seen.HasRoom.HasRoom, declared.seen.HasRoom.TheVariants.{Yes, No}}
-use Rattle.mh_size_runs.specs.{declared.seen.Seen.Seen, Full.first_full, Seen.{MeetsTheLaw, seen_in}}
+use Rattle.mh_size_runs.specs.{declared.rows.PagesOutcome.PagesOutcome, declared.seen.HasRoom.HasRoom}
+use Rattle.mh_size_runs.specs.{declared.seen.HasRoom.TheVariants.{Yes, No}, declared.seen.Seen.Seen, Full.first_full}
+use Rattle.mh_size_runs.specs.Seen.{MeetsTheLaw, seen_in}
 use Rattle.mh_size_runs.specs.Tried.{FitsWith, IsFull, IsFullWith, heap_with, triggers_of}
-
--- there is no room, though a cycle has run
-abbrev pub is_roomless : HasRoom → Bool
-is_roomless No = true
-is_roomless _ = false
 
 -- with this trigger some reply is a full heap, or the run has no room
 abbrev pub IsPassed : Config → List Event → ℕ → ℕ → ℕ → Type 0
@@ -38,8 +32,3 @@ pub record IsChosen (config : Config) (events : List Event) (pages window trigge
 abbrev pub IsOutcome : Config → List Event → ℕ → ℕ → PagesOutcome → Type 0
 IsOutcome config events pages window (PagesOutcome.Fits trigger seen) = IsChosen config events pages window trigger seen
 IsOutcome config events pages window (PagesOutcome.Full event) = IsFull config events pages event
-
--- What looking at a run in one heap came to: the first event that is answered by a full heap, or what is seen
-abbrev pub IsLooked : Config → List Event → ℕ → Looked → Type 0
-IsLooked heap events window (Looked.Full event) = first_full heap events ≡ Some event
-IsLooked heap events window (Looked.Fits seen) = (first_full heap events ≡ None) × (seen ≡ seen_in heap events window) × (seen.room ≡ Yes → MeetsTheLaw heap events seen.quanta)

@@ -23,7 +23,7 @@ pub(crate) struct ClassCounts {
 }
 
 impl ClassCounts {
-    ghost use Rattle.mh_size_runs.specs.ClassCounts.{HasCounted};
+    ghost use Rattle.mh_size_runs.specs.Auxiliary.{HasCounted};
 
     pub(crate) fn new() -> ClassCounts
         ensures none { HasCounted result [] }

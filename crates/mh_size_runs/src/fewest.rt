@@ -5,7 +5,7 @@
 //! search ends at an edge (`IsEdge`), and a lesser number farther down may suffice too.
 ghost use Rattle.std.specs.Prelude.{◌≡◌, ◌≤◌, length, IfOk};
 ghost use Rattle.mh_model.specs.Limits.{most_entries};
-ghost use Rattle.mh_size_runs.specs.{Fewest.{IsEdge, IsFewest}, Spans.{IsSpan, IsSpanned}};
+ghost use Rattle.mh_size_runs.specs.{Fewest.{IsEdge, IsFewest}, Auxiliary.{IsSpan, IsSpanned}};
 
 use crate::edge::{Edge, Fewest};
 use crate::tried::{Tried, try_triggers};

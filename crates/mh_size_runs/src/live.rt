@@ -3,7 +3,7 @@
 //! run has a thousand such quanta and no more, since each looks at all that is live.
 ghost use Rattle.std.specs.Prelude.{◌≡◌, ◌↔◌, ◌<◌, ◌+◌, ◌/◌, ◌≤◌, ◌&&◌, if◌then◌else◌, length, max, ◌∷◌, [], IfOk, IsTrue, OnOk, None, Some};
 ghost use Rattle.mh_model.specs.{Limits.most_entries, Machine.machine_after};
-ghost use Rattle.mh_size_runs.specs.Samples.{ended_between};
+ghost use Rattle.mh_size_runs.specs.Auxiliary.{ended_between};
 ghost use Rattle.mh_size_runs.specs.Live.{AreQuartersFrom, AreWhole, IsLive, live_blocks, most_left, quarter_of, quarter_start, widest};
 
 use crate::sample::Stage;

@@ -4,7 +4,7 @@
 //! which no reply is a full heap.
 ghost use Rattle.std.specs.Prelude.{◌≡◌, ◌≤◌, length, IfOk};
 ghost use Rattle.mh_model.specs.Limits.{most_entries};
-ghost use Rattle.mh_size_runs.specs.Rows.{IsLooked, IsOutcome, is_roomless};
+ghost use Rattle.mh_size_runs.specs.{Auxiliary.{IsLooked, is_roomless}, Rows.IsOutcome};
 
 use crate::full::first_full;
 use crate::seen::{HasRoom, Seen, seen_of};

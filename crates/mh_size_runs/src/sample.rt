@@ -4,7 +4,7 @@
 //! takes, since a cycle never has more (`IsInTime`).
 ghost use Rattle.std.specs.Prelude.{◌≡◌, ◌<◌, ◌^◌, nat_lt};
 ghost use Rattle.mh_laws.specs.Bounds.{IsInTime};
-ghost use Rattle.mh_size_runs.specs.Samples.{ended_between, quanta_between, sample_of, stage_of};
+ghost use Rattle.mh_size_runs.specs.Auxiliary.{ended_between, quanta_between, sample_of, stage_of};
 
 use mh_machine::machine::Machine;
 use mh_model::cycle::Phase;

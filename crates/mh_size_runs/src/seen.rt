@@ -4,7 +4,7 @@ ghost use Rattle.std.specs.Prelude.{◌≡◌, ◌≤◌, ℕ, List, length, IfO
 ghost use Rattle.mh_model.specs.{declared.command.Event.Event, Limits.most_entries};
 ghost use Rattle.mh_model.specs.Machine.{first_machine, machine_after, report_on};
 ghost use Rattle.mh_machine.specs.Running.{first_running};
-ghost use Rattle.mh_size_runs.specs.{Facts.HasFacts, Full.HasNoFullReply};
+ghost use Rattle.mh_size_runs.specs.{Auxiliary.HasFacts, Full.HasNoFullReply};
 ghost use Rattle.mh_size_runs.specs.Seen.{MeetsTheLaw, is_roomy, is_within, room_by, seen_in};
 
 use crate::in_a_row::most_in_a_row;

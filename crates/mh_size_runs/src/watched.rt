@@ -4,8 +4,7 @@
 //! How many intervals in a row count isn't known before the last cycle. So what each opens is kept.
 ghost use Rattle.std.specs.Prelude.{◌≡◌, ◌+◌, ◌<◌, ◌≤◌, ◌++◌, ◌∷◌, [], ◌^◌, max, if◌then◌else◌, nat_lt, List, None, Some, OnOk, IfOk, IsSome, unwrap_or, map};
 ghost use Rattle.mh_model.specs.{Classes.Part, Openings.{asked_parts, pages_of_parts}, Trace.lesser};
-ghost use Rattle.mh_size_runs.specs.{ClassCounts.HasCounted, Samples.{ended_between, quanta_between}};
-ghost use Rattle.mh_size_runs.specs.Watched.{GoesOn, HasSameCounts, HasSameCycles, Starts};
+ghost use Rattle.mh_size_runs.specs.Auxiliary.{HasCounted, ended_between, quanta_between, GoesOn, HasSameCounts, HasSameCycles, Starts};
 
 use crate::class_counts::ClassCounts;
 use crate::sample::Sample;

@@ -13,7 +13,7 @@ use Rattle.mh_script.specs.declared.fault.ScriptFault.TheVariants.{Read, Write, 
 use Rattle.mh_script.specs.Tasks.{IsPerformed}
 use Rattle.mh_script.proofs.{RunLemmas.{ends-as, ends-few, ends-many, may-long}, TakenLemmas.takes-none}
 use Rattle.mh_size_text.specs.{declared.end.SizeEnd.SizeEnd, declared.end.SizeEnd.TheVariants.{Sized, NoSize, Refused}}
-use Rattle.mh_size_text.specs.Scripts.{IsSizeText, IsSized, MayEndSized, ended_with}
+use Rattle.mh_size_text.specs.{Scripts.{IsSizeText, IsSized, MayEndSized}, Auxiliary.ended_with}
 
 -- memory was refused before anything was written
 pub starved : (options : SizeOptions) (text : Text) (script : Meaning) (sink : Device) (ended : Result SizeEnd ScriptFault) → reading text ≡ Means script → IsErrAnd ended (λ fault. fault ≡ NoMemory) → IsPerformed (IsSized options) sink sink ended text

@@ -36,11 +36,6 @@ IsSizeText options found (Means script) text =
     let config = with_rules options.rules script.config in
     IsTextOfRun config (take most_entries script.events) (window_of options config) text found
 
--- how a sizing ended that was written
-abbrev pub ended_with : Bool → SizeEnd
-ended_with true = Sized
-ended_with false = NoSize
-
 -- Sizings ----------------------------------------------------------------------------------------
 
 -- how the sizing of a text may end that found this: as its run

@@ -6,7 +6,8 @@
 ghost use Rattle.std.specs.{Prelude.{◌≡◌, ◌≤◌, length, take, IfOk}, String.string_bytes};
 ghost use Rattle.mh_model.specs.{Bytes.Text, Limits.most_entries, Script.{Means, reading}};
 ghost use Rattle.mh_script.specs.Tasks.{IsPerformed};
-ghost use Rattle.mh_size_text.specs.Scripts.{IsSizeText, IsSized, IsSizing, IsTextOfRun, ended_with, window_of};
+ghost use Rattle.mh_size_text.specs.Scripts.{IsSizeText, IsSized, IsSizing, IsTextOfRun, window_of};
+ghost use Rattle.mh_size_text.specs.Auxiliary.{ended_with};
 
 use crate::end::SizeEnd;
 use crate::lines::{is_short, push_heaps, push_live, push_script, session_count};

@@ -7,7 +7,7 @@ use Rattle.mh_model.specs.Mutator.{HeapState, root_at, shape_at, heap_sight, hea
 use Rattle.mh_model.specs.{Machine.{Machine, quantum_run, control_step, event_step}, declared.command.Event.Event}
 use Rattle.mh_model.specs.declared.reply.Reply.{Reply}
 use Rattle.mh_promise.proofs.AnsweredEvents.{session-reply}
-use Rattle.mh_state.specs.Copies.{IsNoDump}
+use Rattle.mh_state.specs.Auxiliary.{IsNoDump}
 
 effect-plain : (heap : HeapState) (who : _) (command : Command) → IsNoDump (heap_effect heap who command).reply
 unfolding heap_effect

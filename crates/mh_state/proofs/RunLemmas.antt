@@ -7,7 +7,7 @@ use Rattle.mh_model.specs.Limits.{most_entries}
 use Rattle.mh_promise.specs.{Runs.AreAnsweredSoFar, Replays.{EventsKeepTheReplay, IsReplay}}
 use Rattle.mh_machine.specs.{Running.{Running, first_running}, declared.machine.Stop.Stop}
 use Rattle.mh_machine.specs.declared.machine.Stop.TheVariants.{HistoryFull}
-use Rattle.mh_state.specs.Whole.{GoesOn, HasDone, IsStopped}
+use Rattle.mh_state.specs.Auxiliary.{GoesOn, HasDone, IsStopped}
 
 module _ (law : EventsKeepTheReplay) (config : Config) (events : List Event) where
   pub none-done : (replies : List Reply) (running : Running) → replies ≡ [] → running ≡ first_running config → HasDone config events 0 replies running

@@ -7,7 +7,7 @@ use Rattle.mh_model.specs.Machine.{Machine, first_machine}
 use Rattle.mh_laws.proofs.bounds.CyclesInTime.{run-stays}
 use Rattle.mh_promise.specs.Replays.{EventsKeepTheReplay, IsReplay}
 use Rattle.mh_machine.specs.Running.{Running, Does}
-use Rattle.mh_state.specs.Storing.{IsStored, with_entry, IsTheReplay, KeepsItsPromise}
+use Rattle.mh_state.specs.{Auxiliary.IsStored, Storing.{with_entry, IsTheReplay, KeepsItsPromise}}
 
 -- the machine of a replay has its configuration
 pub config-replay : (config : Config) (events : List Event) (replies : List Reply) (machine : Machine) → IsReplay config events replies machine → machine.heap.config ≡ config

@@ -1,3 +1,3 @@
-pub mod Copies
 pub mod Storing
 pub mod Whole
+pub mod Auxiliary

@@ -1,10 +1,10 @@
 -- The machine that is stored with the history of what it did.
-use Rattle.std.specs.Prelude.{◌≡◌, ◌⊎◌, ℕ, List, [], ◌∷◌, ◌++◌, length}
+use Rattle.std.specs.Prelude.{◌≡◌, ◌⊎◌, ℕ, List, [], ◌∷◌, ◌++◌}
 use Rattle.mh_model.specs.{declared.command.Event.Event, declared.config.Config.Config, declared.history.Entry.Entry}
-use Rattle.mh_model.specs.{declared.reply.Reply.Reply, History.{IsLegal, events_of, replies_of}}
+use Rattle.mh_model.specs.{declared.reply.Reply.Reply, History.{events_of, replies_of}}
 use Rattle.mh_model.specs.Machine.{Machine, first_machine}
-use Rattle.mh_promise.specs.{Replays.IsReplay, Runs.{outcome_of, IsTheMachines}, Promise.IsPromised}
-use Rattle.mh_machine.specs.Running.{Running, MayAskForMemory}
+use Rattle.mh_promise.specs.{Runs.{outcome_of, IsTheMachines}, Promise.IsPromised}
+use Rattle.mh_machine.specs.Running.{MayAskForMemory}
 
 -- The machine, and each event that it did with its reply, in order; how many segments the trace and how many entries the history have room for without asking for memory
 pub record Stored : Type 0 where
@@ -29,12 +29,6 @@ MayWantMemory stored event = MayAskForMemory stored.trace_room event ⊎ (stored
 -- a history with an event more and its reply
 abbrev pub with_entry : List Entry → Event → Reply → List Entry
 with_entry history event reply = history ++ record { event = event; reply = reply } ∷ []
-
--- the history is that of the machine, and legal
-pub record IsStored (running : Running) (history : List Entry) : Type 0 where
-  pub replay : IsReplay running.machine.heap.config (events_of history) (replies_of history) running.machine
-  pub legal : IsLegal running.machine.heap.config history
-  pub count : length history ≡ running.done
 
 -- the machine is that after the events of its history, and the replies are the machine's
 abbrev pub IsTheReplay : Stored → Type 0

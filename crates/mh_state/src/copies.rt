@@ -7,7 +7,7 @@
 //! count of handles can be full. Every other reply is copied without memory.
 ghost use Rattle.std.specs.Prelude.{◌≡◌, IfOk, OnErr};
 ghost use Rattle.mh_model.specs.Machine.{event_step};
-ghost use Rattle.mh_state.specs.Copies.{IsNoDump, IsDumpOf};
+ghost use Rattle.mh_state.specs.Auxiliary.{IsNoDump, IsDumpOf};
 ghost use Rattle.mh_model.specs.declared.command.Control.TheVariants as controls;
 ghost use Rattle.mh_model.specs.declared.command.Event.TheVariants as events;
 

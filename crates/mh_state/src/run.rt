@@ -14,7 +14,7 @@ ghost use Rattle.std.specs.Prelude.{◌≡◌, ◌<◌, ◌≤◌, IfOk, OnOk, I
 ghost use Rattle.mh_model.specs.Limits.{most_entries};
 ghost use Rattle.mh_promise.specs.{Runs.{IsTheMachines, AreAnsweredSoFar}, Replays.IsReplay};
 ghost use Rattle.mh_promise.specs.Promise.{IsPromised, IsPromisedSoFar};
-ghost use Rattle.mh_state.specs.Whole.{shown_outcome, GoesOn, HasDone, IsStopped};
+ghost use Rattle.mh_state.specs.{Whole.shown_outcome, Auxiliary.{GoesOn, HasDone, IsStopped}};
 ghost use Rattle.mh_machine.specs.declared.machine.Stop.{Stop};
 
 use mh_machine::machine::{Machine, Stop};

@@ -11,7 +11,7 @@
 //! If memory for the event is then refused, the room that was made stays, since room is no part of either.
 ghost use Rattle.std.specs.{Prelude.{◌≡◌, ◌<◌, ◌⊎◌, IfOk, OnOk, OnErr, IsErrOf, length, vec_len}, Vec.vec_capacity};
 ghost use Rattle.mh_model.specs.{History.IsLegal, Limits.most_entries, World.says, Machine.event_step};
-ghost use Rattle.mh_state.specs.Copies.{IsDumpOf};
+ghost use Rattle.mh_state.specs.Auxiliary.{IsDumpOf};
 ghost use Rattle.mh_state.specs.Storing.{first_stored, KeepsState, MayWantMemory, with_entry, IsTheReplay, KeepsItsPromise};
 ghost use Rattle.mh_machine.specs.declared.machine.Stop.{Stop};
 ghost use Rattle.mh_model.specs.declared.command.Control.TheVariants as controls;
@@ -42,7 +42,7 @@ pub struct State {
 
 impl Model for State {
     ghost use Rattle.std.specs.{Prelude.{◌-◌, vec_len}, Vec.vec_capacity};
-    ghost use Rattle.mh_state.specs.Storing.{Stored, IsStored};
+    ghost use Rattle.mh_state.specs.{Storing.Stored, Auxiliary.IsStored};
 
     ghost Value = { Stored };
 

@@ -1,9 +1,10 @@
 -- Several steps of the sweep in one page.
-use Rattle.std.proofs.Common.{None, Some, zero, suc, ◌≤◌, ◌≡◌, ◌≢◌, ℕ, ◌+◌, ◌*◌, ◌/◌, ◌%◌, ◌<◌, ◌⊎◌, true, if◌then◌else◌, inl, inr, length, is_some, refl, sym, ap, ◌∙◌, subst, arith, add-one, below_more}
+use Rattle.std.proofs.Common.{None, Some, zero, suc, ◌≤◌, ◌≡◌, ◌≢◌, ℕ, ◌+◌, ◌*◌, ◌/◌, ◌%◌, ◌<◌, ◌⊎◌, true, inl, inr, length, is_some, refl, sym, ap, ◌∙◌, subst, arith, add-one, below_more}
 use Rattle.std.proofs.lemmas.Bool.{cases_lt, lt-ltb, le-ltb}
 use Rattle.mh_model.specs.{Classes.slots_in, Pages.{Table, page_number, slot_number, page_at, class_at, HaveTheirSlots}}
 use Rattle.mh_model.specs.Table.{Block}
-use Rattle.mh_sweep.specs.Swept.{slot_swept, slots_swept, stretch_end, judged, AreFree, Sweeping, swept_once, swept_on, IsSweptTo}
+use Rattle.mh_sweep.specs.Auxiliary.{slot_swept, slots_swept, stretch_end, judged, AreFree}
+use Rattle.mh_sweep.specs.Swept.{Sweeping, swept_once, swept_on, IsSweptTo}
 use Rattle.mh_sweep.proofs.SweepLemmas.{slot_count_in, used-classed, slots-classed, step-free, step-slot, step-last, swept-class, swept-slots, swept-long}
 
 abbrev pub sweeping : Table Block → ℕ → Sweeping
@@ -25,10 +26,7 @@ at_parts a b p q e f = rw (e, f) refl
 
 here : (cycle : ℕ) (table new : Table Block) (place size count : ℕ) → IsSweepingOn cycle table place size new count → page_number place < length table → place % 64 + count < 64
     → (k : ℕ) → k < count + 1 → page_number (swept_on cycle k (sweeping table place)).place < length (swept_on cycle k (sweeping table place)).table
-here cycle table new place size count on inside fits =
-    let page : (place + count) / 64 ≡ place / 64 = omega arith in
-    below_more (λ k. page_number (swept_on cycle k (sweeping table place)).place < length (swept_on cycle k (sweeping table place)).table) count on.inside
-    (subst (λ (s : Sweeping). page_number s.place < length s.table) on.is (omega (arith, on.long)))
+here cycle table new place size count on inside fits = grind (arith, below_more)
 
 pub sweeping-class : (cycle : ℕ) (table new : Table Block) (place size count : ℕ) → IsSweepingOn cycle table place size new count → place % 64 + count < 64 → class_at (slot_swept cycle new (place + count)) (page_number place) ≡ Some size
 sweeping-class cycle table new place size count on fits =
@@ -74,23 +72,14 @@ sweeping-ends cycle table new place size count next on some is = record { is = a
 
 -- a stretch ends after the last slot of the page, or goes past it
 pub end-cases : (slots slot : ℕ) → ((slot < slots) × (stretch_end slots slot ≡ slots)) ⊎ ((slots ≤ slot) × (stretch_end slots slot ≡ 64))
-end-cases slots slot = elim (cases_lt slot slots) [
-  | inl before ↦ inl (before, ap (λ b. if b then slots else 64) (lt-ltb slot slots before))
-  | inr past ↦ inr (past, ap (λ b. if b then slots else 64) (le-ltb slot slots past))
-]
+end-cases slots slot = grind (arith, cases_lt, inl, lt-ltb, inr, le-ltb)
 
 -- a stretch that doesn't end after the last slot hasn't that slot, and one that is whole fills the longest page
 pub not_last : (slots slot count : ℕ) → slot + count ≤ stretch_end slots slot → slot + count ≢ slots → (k : ℕ) → k < count → slot + k + 1 ≢ slots
-not_last slots slot count within apart k below = elim (end-cases slots slot) [
-  | inl before ↦ λ last. absurd (omega (arith, before.0, before.1, apart))
-  | inr past ↦ λ last. absurd (omega (arith, past.0))
-]
+not_last slots slot count within apart k below = grind (arith, end-cases, inl, inr)
 
 pub whole : (slots slot count : ℕ) → slot + count ≡ stretch_end slots slot → slot + count ≢ slots → slot + count ≡ 64
-whole slots slot count is apart = elim (end-cases slots slot) [
-  | inl before ↦ absurd (apart (is ∙ before.1))
-  | inr past ↦ is ∙ past.1
-]
+whole slots slot count is apart = grind (arith, end-cases, inl, is, inr)
 
 pub sweeping-all : (cycle : ℕ) (table : Table Block) (place size count : ℕ) → HaveTheirSlots table → class_at table (page_number place) ≡ Some size → page_number place < length table → place % 64 + count ≤ 64
     → ((k : ℕ) → k < count → place % 64 + k + 1 ≢ slots_in size) → IsSweepingOn cycle table place size (slots_swept cycle table place count) count
@@ -125,8 +114,7 @@ stretch-long cycle table place (suc count) = swept-long cycle (slots_swept cycle
 passed : (cycle : ℕ) (table : Table Block) (place n : ℕ) → AreFree table (page_number place) (suc n) → swept_on cycle (suc n) (sweeping table place) ≡ sweeping table (64 * (place / 64 + suc n))
 passed cycle table place zero free =
     let first : place / 64 + 0 ≡ place / 64 = omega arith in
-    let step = step-free cycle table place (sym (ap (class_at table) first) ∙ free 0 (omega arith)) in
-    at_parts _ _ _ _ step.0 step.1
+    grind (arith, step-free, at_parts)
 passed cycle table place (suc n) free =
     let q : ℕ = 64 * (place / 64 + suc n) in
     let page : q / 64 ≡ place / 64 + suc n = omega arith in

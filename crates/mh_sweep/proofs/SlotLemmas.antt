@@ -12,7 +12,7 @@ use Rattle.mh_table_laws.proofs.placing.Places.{block_at-with_block_other, with_
 use Rattle.mh_bits.specs.Bits.{has_bit}
 use Rattle.mh_bits.proofs.BitLemmas.{IsLowest, lowest_bit, has_bit-zero, has_bit-clear_same, has_bit-clear_other}
 use Rattle.mh_blocks.specs.Marks.{is_dead}
-use Rattle.mh_sweep.specs.Swept.{slot_swept, slots_swept, is_slot_between}
+use Rattle.mh_sweep.specs.Auxiliary.{slot_swept, slots_swept, is_slot_between}
 
 -- Blocks that are freed and blocks that stay ----------------------------------------------------------
 
@@ -112,13 +112,7 @@ freeing-starts cycle table place count left few word = record {
     inside k below = rw (le-leb (slot_number place) (slot_number place + k) (omega arith), lt-ltb (slot_number place + k) (slot_number place + count) (omega arith)) refl
 
     between : (slot : ℕ) → (is_slot_between (slot_number place) (slot_number place + count) slot && is_dead cycle (block_at table (64 * page_number place + slot))) ≡ true → (slot_number place + 0 ≤ slot) × (slot < slot_number place + count)
-    between slot is = elim (cases_lt slot (slot_number place)) [
-      | inl before ↦ absurd (false≢true (sym (ap (λ b. (b && nat_lt slot (slot_number place + count)) && is_dead cycle (block_at table (64 * page_number place + slot))) (lt-leb (slot_number place) slot before)) ∙ is))
-      | inr from ↦ elim (cases_lt slot (slot_number place + count)) [
-        | inl inside ↦ (omega arith, inside)
-        | inr past ↦ absurd (false≢true (sym (ap (λ b. (b && nat_lt slot (slot_number place + count)) && is_dead cycle (block_at table (64 * page_number place + slot))) (le-leb (slot_number place) slot from) ∙ ap (λ b. b && is_dead cycle (block_at table (64 * page_number place + slot))) (le-ltb slot (slot_number place + count) past)) ∙ is))
-      ]
-    ]
+    between slot is = grind (arith, cases_lt, inl, false≢true, lt-leb, is, inr, inside, le-leb, le-ltb)
 
 -- the next slot to be freed: those before it stay as they are
 pub record IsNext (cycle : ℕ) (table : Table Block) (place count : ℕ) (new : Table Block) (left done : ℕ) : Type 0 where

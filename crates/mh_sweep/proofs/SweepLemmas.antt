@@ -9,7 +9,7 @@ use Rattle.mh_model.specs.Pages.{Page, Table, page_number, slot_number, page_at,
 use Rattle.mh_model.specs.Table.{Block, stamp_at, forward_at}
 use Rattle.mh_model.specs.Collector.{survivor, judged_page, swept_page, swept_table, is_last_slot, next_page, next_place}
 use Rattle.mh_table_laws.proofs.placing.Places.{with_block-self}
-use Rattle.mh_sweep.specs.Swept.{slot_swept, judged}
+use Rattle.mh_sweep.specs.Auxiliary.{slot_swept, judged}
 
 -- how many slots the page of this number has: none if it is free
 abbrev pub slot_count_in : Table Block → ℕ → ℕ
@@ -59,8 +59,7 @@ judged-some table number size slots (Some page) class long some = rw (ne_eqb (li
 
 pub judged-flagged : (table : Table Block) (number size live : ℕ) (flag : Bool) → HaveTheirSlots table → class_at table number ≡ Some size → live ≡ count_at table number → live ≢ 0 → flag ≡ (nat_le (4 * live) (slots_in size) && has_denser table number size)
     → with_flag table number flag ≡ judged table number
-judged-flagged table number size live flag all class count some is =
-    rw (is, count) (ap (set table number) (judged-some table number size (slots_in size) (page_at table number) class (slots-classed table number size all class) (λ none. some (count ∙ none))))
+judged-flagged table number size live flag all class count some is = grind (arith, judged-some, slots-classed)
 
 -- The step ------------------------------------------------------------------------------------------
 

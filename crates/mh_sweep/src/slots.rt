@@ -3,7 +3,7 @@ ghost use Rattle.std.specs.Prelude.{ℕ, ◌≡◌, ◌+◌, ◌*◌, ◌<◌, �
 ghost use Rattle.mh_model.specs.Pages.{page_number, slot_number, block_at};
 ghost use Rattle.mh_bits.specs.Bits.{has_bit};
 ghost use Rattle.mh_blocks.specs.Marks.{is_dead};
-ghost use Rattle.mh_sweep.specs.Swept.{slots_swept, is_slot_between};
+ghost use Rattle.mh_sweep.specs.Auxiliary.{slots_swept, is_slot_between};
 
 use mh_blocks::blocks::Blocks;
 use mh_model::limits::PLACES;

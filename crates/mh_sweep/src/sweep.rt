@@ -6,7 +6,7 @@
 ghost use Rattle.std.specs.Prelude.{◌≡◌, ◌+◌, ◌<◌, ◌≤◌, Some, length};
 ghost use Rattle.mh_model.specs.{Classes.slots_in, Pages.{page_number, page_at, class_at}};
 ghost use Rattle.mh_model.specs.Collector.{swept_table, next_place};
-ghost use Rattle.mh_sweep.specs.Swept.{slot_swept, stretch_end, judged, AreFree, IsSweptTo};
+ghost use Rattle.mh_sweep.specs.{Auxiliary.{slot_swept, stretch_end, judged, AreFree}, Swept.IsSweptTo};
 
 use crate::slots::sweep_slots;
 use mh_blocks::blocks::Blocks;

@@ -89,9 +89,6 @@ module _ {X Y : Type 0} (f : X → Y) where
   pub unseen : (table : Table X) (place : ℕ) (g : X → X) → ((x : X) → block_at table place ≡ Some x → f (g x) ≡ f x) → table_map f (with_block table place (option_map g (block_at table place))) ≡ table_map f table
   unseen table place g same = grind (arith, with_block-table_map, unseen_content, block_at-table_map, with_block-self)
 
-  found_content : (content : Option X) (y : Y) → option_map f content ≡ Some y → (x : X) × (content ≡ Some x) × (f x ≡ y)
-  found_content content y e = grind arith
-
   -- in tables that are seen alike blocks are seen alike
   pub seen_alike : (old new : Table X) (place : ℕ) (x : X) → table_map f new ≡ table_map f old → block_at new place ≡ Some x → (y : X) × (block_at old place ≡ Some y) × (f y ≡ f x)
   seen_alike old new place x same at = grind (arith, block_at-table_map old place, block_at-table_map new place)

@@ -1,3 +1,2 @@
 pub mod GreyList
 pub mod BatchMarking
-pub mod StandingStill

@@ -1,5 +1,4 @@
 pub mod Tables
-pub mod Placing
-pub mod NewObjects
 pub mod Marking
 pub mod TableMaps
+pub mod Auxiliary

@@ -4,15 +4,11 @@ use Rattle.std.proofs.lemmas.Grind.{flat_map-append}
 use Rattle.std.specs.Prelude.{Result, Ok, Err, OnOk}
 use Rattle.mh_model.specs.{declared.deed.Deed.Deed, declared.deed.Fate.Fate, Bytes.Text}
 use Rattle.mh_tell_steps.specs.{declared.figures.HeapCounts.HeapCounts, Lines.quoted}
-use Rattle.mh_tell_chrome.specs.Deeds.{counted, shaded_by, swept, total}
+use Rattle.mh_tell_chrome.specs.{Deeds.{counted, shaded_by, swept}, Auxiliary.total}
 use Rattle.mh_tell_chrome.specs.TraceEvents.{TraceEvent, next_text, next_texts}
 
 pub next_texts_append : (first next : List TraceEvent) → next_texts (first ++ next) ≡ next_texts first ++ next_texts next
 next_texts_append first next = flat_map-append next_text first next
-
--- what was added in pieces
-pub written3 : (old a b c p q r : Text) → a ≡ old ++ p → b ≡ a ++ q → c ≡ b ++ r → c ≡ old ++ (p ++ (q ++ r))
-written3 old a b c p q r a_is b_is c_is = c_is ∙ rw (b_is, a_is) (simp append_assoc)
 
 pub written5 : (old a b c d e p q r s t : Text) → a ≡ old ++ p → b ≡ a ++ q → c ≡ b ++ r → d ≡ c ++ s → e ≡ d ++ t → e ≡ old ++ (p ++ (q ++ (r ++ (s ++ t))))
 written5 old a b c d e p q r s t a_is b_is c_is d_is e_is = e_is ∙ rw (d_is, c_is, b_is, a_is) (simp append_assoc)

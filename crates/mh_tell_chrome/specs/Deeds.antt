@@ -48,10 +48,6 @@ counted counts (Deed.Shade place) = record counts { grey = counts.grey + 1 }
 counted counts (Deed.Make place name class_size fields tier) = record counts { free = counts.free - taken_by tier; live = counts.live + 1 }
 counted counts _ = counts
 
--- how much there is of all that is counted
-abbrev pub total : HeapCounts → ℕ
-total counts = counts.free + counts.live + counts.old + counts.grey
-
 -- What deeds in order leave in the heap
 abbrev pub counted_all : HeapCounts → List Deed → HeapCounts
 counted_all counts [] = counts

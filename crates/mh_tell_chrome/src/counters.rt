@@ -4,7 +4,8 @@
 ghost use Rattle.std.specs.Prelude.{◌≡◌, ◌+◌, ◌<◌, ◌≤◌, ◌^◌, ◌==◌, ◌&&◌, ◌++◌, ◌∷◌, [], length, OnOk};
 ghost use Rattle.std.specs.String.{string_bytes};
 ghost use Rattle.mh_tell_chrome.specs.TraceEvents.{next_texts};
-ghost use Rattle.mh_tell_chrome.specs.Deeds.{blocks_counter, counted, counted_all, counters, grey_counter, pages_counter, swept, total, unless_same};
+ghost use Rattle.mh_tell_chrome.specs.Deeds.{blocks_counter, counted, counted_all, counters, grey_counter, pages_counter, swept, unless_same};
+ghost use Rattle.mh_tell_chrome.specs.Auxiliary.{total};
 
 use crate::trace_event::{push_blocks, push_counter};
 use mh_model::deed::{Deed, Fate, Tier};

@@ -5,7 +5,7 @@ ghost use Rattle.std.specs.String.{string_bytes};
 ghost use Rattle.mh_deeds.specs.Accounts.{account_in};
 ghost use Rattle.mh_model.specs.{Bytes.joined, Forms.{command_phrase, phrase_words}, Replies.reply_text};
 ghost use Rattle.mh_tell_steps.specs.Lines.{quoted};
-ghost use Rattle.mh_tell_chrome.specs.Deeds.{session_thread, total};
+ghost use Rattle.mh_tell_chrome.specs.{Deeds.session_thread, Auxiliary.total};
 ghost use Rattle.mh_tell_chrome.specs.Runs.{begun_by, command_events, command_fields, control_events, ran_course, ran_events, session_name, shade_count, told_events, thread_events, is_seen, seen_after};
 ghost use Rattle.mh_tell_chrome.specs.TraceEvents.{Begin, arguments_text, next_text, next_texts};
 

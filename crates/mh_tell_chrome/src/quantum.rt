@@ -4,7 +4,8 @@
 //! spent nothing is left out.
 ghost use Rattle.std.specs.{Prelude.{◌≡◌, ◌+◌, ◌<◌, ◌≤◌, ◌^◌, ◌++◌, is_some, length, IfOk, OnOk}, String.string_bytes};
 ghost use Rattle.mh_tell_chrome.specs.TraceEvents.{next_text, next_texts};
-ghost use Rattle.mh_tell_chrome.specs.Deeds.{closed, course_after, course_after_all, cycle_end, cycle_ends, deed_begins, deed_events, deeds_events, goes_on, phase_begins, phase_ends, quantum_begins, quantum_course, quantum_ends, quantum_events, quantum_slice, reopened, spent_slice, step_begins, step_ends, step_name, total};
+ghost use Rattle.mh_tell_chrome.specs.Deeds.{closed, course_after, course_after_all, cycle_end, cycle_ends, deed_begins, deed_events, deeds_events, goes_on, phase_begins, phase_ends, quantum_begins, quantum_course, quantum_ends, quantum_events, quantum_slice, reopened, spent_slice, step_begins, step_ends, step_name};
+ghost use Rattle.mh_tell_chrome.specs.Auxiliary.{total};
 
 use crate::counters::{count, push_counters};
 use crate::course::{Course, Slices};

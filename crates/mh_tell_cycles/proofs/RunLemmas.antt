@@ -8,7 +8,8 @@ use Rattle.mh_tell_laws.specs.Cycles.{Cycle, starts_cycle, cycle_begun, cycle_wi
 use Rattle.mh_tell_laws.proofs.cycles.EventLemmas.{IsSafe, safe-first, safe-event}
 use Rattle.mh_tell_cycles.specs.{declared.underway.Underway.Underway, declared.watch.Watch.Watch}
 use Rattle.mh_tell_cycles.specs.Lines.{Stage, cycles_text, cycles_told, first_stage, kept_text, line_after, line_of, line_text, stage_after}
-use Rattle.mh_tell_cycles.specs.Tallies.{asked_after, cycle_after, underway_of, underway_from, with_account, watch_noted, watch_closed}
+use Rattle.mh_tell_cycles.specs.Tallies.{asked_after, cycle_after, underway_from, with_account, watch_noted, watch_closed}
+use Rattle.mh_tell_cycles.specs.Auxiliary.{underway_of}
 use Rattle.mh_tell_cycles.proofs.StartLemmas.{event-asked, running-starts_none, starts-told}
 use Rattle.mh_tell_cycles.proofs.UnderwayLemmas.{begun-is, line-is, more-is}
 

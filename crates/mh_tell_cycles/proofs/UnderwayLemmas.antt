@@ -17,8 +17,8 @@ use Rattle.mh_tell_laws.specs.Cycles.{Cycle, starts_cycle, cycle_begun, cycle_wi
 use Rattle.mh_tell_laws.proofs.cycles.EventLemmas.{IsSafe, safe-first, safe-event, half-tells, quantum-tells, event-tells, account-quantum}
 use Rattle.mh_tell_laws.proofs.cycles.UnitLemmas.{is_of_command, command-deeds, command-spent}
 use Rattle.mh_tell_cycles.specs.{declared.underway.Underway.Underway, declared.watch.Watch.Watch}
-use Rattle.mh_tell_cycles.specs.Tallies.{first_tally, tally_all, HasRoom, IsOfRun, IsWithin, blocks_of_stat, blocks_after, spent_by, underway_from, underway_of, with_quantum, with_account}
-use Rattle.mh_tell_cycles.specs.Lines.{line_after, line_of}
+use Rattle.mh_tell_cycles.specs.Tallies.{first_tally, tally_all, HasRoom, IsOfRun, IsWithin, blocks_of_stat, blocks_after, spent_by, underway_from, with_quantum, with_account}
+use Rattle.mh_tell_cycles.specs.{Auxiliary.underway_of, Lines.{line_after, line_of}}
 use Rattle.mh_tell_cycles.proofs.StartLemmas.{half-kept}
 use Rattle.mh_tell_cycles.proofs.TallyLemmas.{counts-are, units-are, longest-is, room-all, room-less, tally_all-append}
 

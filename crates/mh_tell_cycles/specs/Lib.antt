@@ -1,2 +1,3 @@
 pub mod Tallies
 pub mod Lines
+pub mod Auxiliary

@@ -1,12 +1,12 @@
 -- What the deeds of a cycle come to, kept deed by deed, and what is kept of a cycle that runs.
-use Rattle.std.specs.Prelude.{◌≡◌, ℕ, ◌+◌, ◌-◌, ◌*◌, ◌^◌, ◌==◌, ◌≤◌, max, Bool, true, false, not, ◌&&◌, if◌then◌else◌, Option, Some, None, IfSome, List, [], ◌∷◌, length}
+use Rattle.std.specs.Prelude.{◌≡◌, ℕ, ◌+◌, ◌-◌, ◌*◌, ◌^◌, ◌==◌, ◌≤◌, max, Bool, true, false, not, ◌&&◌, if◌then◌else◌, Option, Some, None, IfSome, List, [], ◌∷◌}
 use Rattle.std.specs.List.{sum_by}
 use Rattle.mh_model.specs.{declared.command.Event.Event, declared.config.Config.Config, declared.cycle.Phase.Phase}
 use Rattle.mh_model.specs.{declared.cycle.Phase.TheVariants.{Idle, Roots, Mark, Sweep, Defrag}, declared.deed.Deed.Deed}
 use Rattle.mh_model.specs.{declared.stat.Stat.Stat, Collector.is_idle, Deeds.{Ran, Account, deed_units, account_of}}
 use Rattle.mh_model.specs.Machine.{Machine, first_machine, event_step, machine_after, stat_on}
 use Rattle.mh_model.specs.{Trace.{mutator_count, collector_count}, declared.command.Control.Control}
-use Rattle.mh_tell_laws.specs.Cycles.{Cycle, deeds_in_cycle, quanta_in_cycle, marks, makes, opens, shades, frees, drops, empties, comes_to_sparse, moves, words_moved, phase_after_deed, grey_after_deed, cycle_number, was_asked, greatest_spent, stat_before}
+use Rattle.mh_tell_laws.specs.Cycles.{marks, makes, opens, shades, frees, drops, empties, comes_to_sparse, moves, words_moved, phase_after_deed, grey_after_deed, was_asked}
 use Rattle.mh_tell_cycles.specs.declared.{tally.DeedCounts.DeedCounts, tally.Tally.Tally, tally.Units.Units}
 use Rattle.mh_tell_cycles.specs.declared.{underway.BlockCounts.BlockCounts, underway.Underway.Underway}
 use Rattle.mh_tell_cycles.specs.declared.watch.Watch.{Watch}
@@ -120,20 +120,6 @@ underway_from number watch machine account = with_quantum (record {
   greatest = 0;
   tally = first_tally;
 }) account.quantum
-
--- what is kept of a cycle
-abbrev pub underway_of : Cycle → Underway
-underway_of cycle = record {
-  number = cycle_number cycle;
-  first = cycle.first;
-  is_asked = was_asked cycle;
-  mutator = mutator_count cycle.start.trace.letters;
-  collector = collector_count cycle.start.trace.letters;
-  before = blocks_of_stat (stat_before cycle);
-  quanta = length (quanta_in_cycle cycle);
-  greatest = greatest_spent (quanta_in_cycle cycle);
-  tally = tally_all first_tally (deeds_in_cycle cycle);
-}
 
 -- Watches ----------------------------------------------------------------------------------------
 

@@ -153,10 +153,6 @@ phase_after_deed phase (Deed.Enter next) = next
 phase_after_deed phase Deed.End = Idle
 phase_after_deed phase _ = phase
 
-abbrev pub phase_after_deeds : Phase → List Deed → Phase
-phase_after_deeds phase [] = phase
-phase_after_deeds phase (deed ∷ deeds) = phase_after_deeds (phase_after_deed phase deed) deeds
-
 -- two phases are the same
 abbrev pub is_phase : Phase → Phase → Bool
 is_phase phase other = phase_number phase == phase_number other

@@ -1,25 +1,9 @@
 -- The laws of pictures: deeds are enough to draw the heap, and what is drawn is enough for its dump.
-use Rattle.std.specs.Prelude.{◌≡◌, ℕ, Bool, List}
-use Rattle.mh_model.specs.{declared.command.Command.Command, declared.command.Event.Event}
-use Rattle.mh_model.specs.{declared.config.Config.Config, Collector.{Collector, collector_step, quantum}}
-use Rattle.mh_model.specs.Mutator.{HeapState, mutator_step}
+use Rattle.std.specs.Prelude.{◌≡◌, List}
+use Rattle.mh_model.specs.{declared.command.Event.Event, declared.config.Config.Config, Collector.Collector}
 use Rattle.mh_model.specs.Machine.{first_machine, half_step, event_step, machine_after, dump_pages, stat_on}
-use Rattle.mh_model.specs.Deeds.{step_deeds, quantum_deeds, command_deeds, account_of}
-use Rattle.mh_model.specs.{Invariant.{IsKeeping, IsSteady}, declared.command.Control.Control}
-use Rattle.mh_model.specs.declared.reply.Reply.{Reply}
+use Rattle.mh_model.specs.{Deeds.account_of, declared.command.Control.Control, declared.reply.Reply.Reply}
 use Rattle.mh_tell_laws.specs.Picture.{picture_of, empty_picture, drawn_all, accounts_of, drawn_run, pictured_dump, pictured_stat}
-
--- The deeds of a step of a steady collector draw the picture after it, whether the quantum has moved a block or not
-abbrev pub StepsTellThePicture : Type 0
-StepsTellThePicture = (collector : Collector) (has_moved : Bool) → IsSteady collector → picture_of (collector_step collector) ≡ drawn_all (picture_of collector) (step_deeds collector has_moved)
-
--- The deeds of a quantum of a steady collector draw the picture after it, in whatever phase it is entered
-abbrev pub QuantaTellThePicture : Type 0
-QuantaTellThePicture = (config : Config) (collector : Collector) → IsSteady collector → picture_of (quantum config collector).collector ≡ drawn_all (picture_of collector) (quantum_deeds config collector)
-
--- The deeds of a command of a session on a kept heap draw the picture after it, also if it is refused
-abbrev pub CommandsTellThePicture : Type 0
-CommandsTellThePicture = (heap : HeapState) (who : ℕ) (command : Command) → IsKeeping heap → picture_of (mutator_step heap who command).state.collector ≡ drawn_all (picture_of heap.collector) (command_deeds heap who command)
 
 -- For every configuration and every list of events, the accounts draw the picture of the machine's heap, from the empty picture on, half moments
 -- included. The replies to the controls `dump` and `stat` are the dump and the counts of what is drawn

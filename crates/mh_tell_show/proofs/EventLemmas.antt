@@ -14,7 +14,8 @@ use Rattle.mh_run_laws.specs.Bounds.{RunsStayWithinTheirEvents}
 use Rattle.mh_tell_steps.proofs.LetterLemmas.{adds, counts}
 use Rattle.mh_script.proofs.LineLemmas.{lines_append, state_append}
 use Rattle.mh_script.specs.Lines.{state_after}
-use Rattle.mh_tell_show.specs.Page.{HasRun, Stage, deed_count, event_line, events_told, fitting, most_deeds, shown_events_text, shown_of, shown_text, stage}
+use Rattle.mh_tell_show.specs.Auxiliary.{HasRun}
+use Rattle.mh_tell_show.specs.Page.{Stage, deed_count, event_line, events_told, fitting, most_deeds, shown_events_text, shown_of, shown_text, stage}
 
 -- Stages -----------------------------------------------------------------------------------------
 

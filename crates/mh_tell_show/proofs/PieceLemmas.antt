@@ -6,7 +6,7 @@ use Rattle.mh_model.specs.Bytes.{Text}
 use Rattle.mh_script.proofs.TakenLemmas.{in-all, in-fails, in-more, in-written}
 use Rattle.mh_script.specs.Texts.{TakesIn}
 use Rattle.mh_text.specs.Devices.{Device, FailsAt, Takes}
-use Rattle.mh_tell_show.specs.Page.{joined_pieces}
+use Rattle.mh_tell_show.specs.Auxiliary.{joined_pieces}
 
 joined-append : (front rest : List (Bor Text)) → joined_pieces (front ++ rest) ≡ joined_pieces front ++ joined_pieces rest
 joined-append front rest = flat_map-append (λ (piece : Bor Text). piece.now) front rest

@@ -7,7 +7,8 @@ use Rattle.mh_model.specs.{Bytes.Text, Deeds.account_of, HistoryTexts.machine_re
 use Rattle.mh_model.specs.{Machine.{Machine, event_step, first_machine, machine_after, machine_replies}, Trace.Letter}
 use Rattle.mh_window_curve.specs.{Histories.letters_of_entries, Points.points_of}
 use Rattle.mh_orders.specs.declared.range.RangeOptions.{RangeOptions}
-use Rattle.mh_tell_show.specs.Page.{HasRun, IsShown, ShowsReplies, deed_count, event_line, events_asked, events_before, fitting, front_text, most_bytes, page_text, part_text, point_row, run_text, shown_events_text, shown_from, shown_of}
+use Rattle.mh_tell_show.specs.Auxiliary.{HasRun}
+use Rattle.mh_tell_show.specs.Page.{IsShown, ShowsReplies, deed_count, event_line, events_asked, events_before, fitting, front_text, most_bytes, page_text, part_text, point_row, run_text, shown_events_text, shown_from, shown_of}
 use Rattle.mh_tell_show.specs.Rows.{listed, row_text}
 use Rattle.mh_tell_steps.specs.Steps.{AreInTurn}
 

@@ -1,7 +1,7 @@
 -- What a page begins with: the heap before its first event, as rows of numbers, and where the collector was.
-use Rattle.std.specs.Prelude.{ℕ, suc, ◌+◌, ◌*◌, Option, Some, None, option_map, unwrap_or, List, [], ◌∷◌, ◌++◌, length, replicate, codes, decimal}
+use Rattle.std.specs.Prelude.{ℕ, suc, ◌+◌, ◌*◌, Option, Some, None, List, [], ◌∷◌, ◌++◌, length, replicate, codes, decimal}
 use Rattle.mh_model.specs.{Bytes.Text, Limits.root_slots, Machine.Machine, Numbered.{phase_number, flag_number}}
-use Rattle.mh_model.specs.{Pages.{Page, Table, page_at}, Table.Block, Trace.{mutator_count, collector_count}}
+use Rattle.mh_model.specs.{Pages.{Page, Table}, Table.Block, Trace.{mutator_count, collector_count}}
 use Rattle.mh_tell_show.specs.Cursor.{Cursor, NoCursor, RootSlot, Place, cursor_of}
 use Rattle.mh_tell_show.specs.Rows.{PageRow, row_of, row_text, listed, root_rows}
 
@@ -17,10 +17,6 @@ abbrev pub slot_rows : ℕ → ℕ → List (Option Block) → List PageRow
 slot_rows page slot [] = []
 slot_rows page slot (None ∷ slots) = slot_rows page (suc slot) slots
 slot_rows page slot (Some block ∷ slots) = block_row (64 * page + slot) block ∷ slot_rows page (suc slot) slots
-
--- the slots of a page, none of a free one
-abbrev pub slots_at : Table Block → ℕ → List (Option Block)
-slots_at table page = unwrap_or (option_map (λ used. used.slots) (page_at table page)) []
 
 -- a page in use with its class and its flag, and then its blocks; and nothing of a free one
 abbrev pub page_rows : ℕ → Option (Page Block) → List PageRow

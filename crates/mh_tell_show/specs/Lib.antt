@@ -5,3 +5,4 @@ pub mod Page
 pub mod LeftOut
 pub mod Bounds
 pub mod BeforeLaws
+pub mod Auxiliary

@@ -1,10 +1,9 @@
 -- The page of a run: the texts that draw it, and between them its numbers.
-use Rattle.std.specs.Prelude.{◌≡◌, ◌≤◌, ℕ, suc, ◌+◌, ◌-◌, nat_lt, nat_le, Bool, if◌then◌else◌, Option, Some, None, List, [], ◌∷◌, ◌++◌, length, take, drop, flat_map, codes, decimal}
-use Rattle.std.specs.Borrow.{Bor}
+use Rattle.std.specs.Prelude.{◌≡◌, ℕ, suc, ◌+◌, ◌-◌, nat_lt, nat_le, Bool, if◌then◌else◌, Option, Some, None, List, [], ◌∷◌, ◌++◌, length, take, drop, codes, decimal}
 use Rattle.mh_model.specs.{declared.command.Event.Event, declared.config.Config.Config, declared.history.Entry.Entry}
 use Rattle.mh_model.specs.{declared.history.Measured.Measured, declared.reply.Reply.Reply, Bytes.{Text, joined}}
 use Rattle.mh_model.specs.Deeds.{Account, Ran, account_of}
-use Rattle.mh_model.specs.{HistoryTexts.{event_words, rules_number, measured_step, machine_record}, Limits.most_entries}
+use Rattle.mh_model.specs.HistoryTexts.{event_words, rules_number, measured_step, machine_record}
 use Rattle.mh_model.specs.{Machine.{Machine, first_machine, event_step, machine_after}, Replies.reply_text}
 use Rattle.mh_model.specs.Numbered.{phase_number}
 use Rattle.mh_script.specs.Lines.{Told, lines_from}
@@ -109,13 +108,6 @@ names_part names = codes "{\"names\":" ++ (listed quoted names ++ codes ",")
 abbrev pub most_bytes : ℕ
 most_bytes = 19500000
 
--- a run of a history has come to a machine, and goes on for so many events
-pub record HasRun (machine : Machine) (more : ℕ) : Type 0 where
-  pub config : Config
-  pub before : List Event
-  pub few : length before + more ≤ most_entries
-  pub machine_is : machine ≡ machine_after (first_machine config) before
-
 -- the events before the first that is asked for, and those that are asked for
 abbrev pub events_before : RangeOptions → List Event → List Event
 events_before options events = take (options.from - 1) events
@@ -151,10 +143,6 @@ run_text options config events =
 -- the run as an object of JSON: its names and its numbers
 abbrev pub object_text : RangeOptions → Text → Config → List Event → Text
 object_text options script config events = names_part (names_in script) ++ run_text options config events
-
--- texts that references point to, each after the one before
-abbrev pub joined_pieces : List (Bor Text) → Text
-joined_pieces pieces = flat_map (λ piece. piece.now) pieces
 
 -- The page of these events of a run, which are those of this script
 abbrev pub page_text : RangeOptions → Text → Config → List Event → Text

@@ -4,8 +4,8 @@
 ghost use Rattle.std.specs.Prelude.{◌≡◌, ◌<◌, ◌++◌, ◌∷◌, IsSome, IfSome, None, Some, OnOk, codes, decimal, flat_map, length, replicate};
 ghost use Rattle.std.specs.String.{string_bytes};
 ghost use Rattle.mh_model.specs.{Limits.root_slots, Pages.{HaveTheirSlots, block_at, class_at, page_at}};
-ghost use Rattle.mh_tell_show.specs.Before.{before_row, before_text, block_row, cursor_number, page_rows, slot_rows, slots_at, table_rows};
-ghost use Rattle.mh_tell_show.specs.{Cursor.cursor_of, Rows.{listed, root_rows, row_text}};
+ghost use Rattle.mh_tell_show.specs.Before.{before_row, before_text, block_row, cursor_number, page_rows, slot_rows, table_rows};
+ghost use Rattle.mh_tell_show.specs.{Auxiliary.slots_at, Cursor.cursor_of, Rows.{listed, root_rows, row_text}};
 
 use crate::event::push_roots;
 use crate::rows::{place_number, push_row};

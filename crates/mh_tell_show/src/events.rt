@@ -12,7 +12,8 @@ ghost use Rattle.mh_window_curve.specs.Histories.{letters_of_entries};
 ghost use Rattle.mh_deeds.specs.Accounts.{account_in};
 ghost use Rattle.mh_model.specs.{declared.birth.TheConstants.LIFE, Deeds.account_of};
 ghost use Rattle.mh_model.specs.{HistoryTexts.{machine_record, measured_step}, Limits.most_entries, Machine.event_step};
-ghost use Rattle.mh_tell_show.specs.Page.{HasRun, deed_count, fitting, shown_events_text, most_deeds, shown_of, shown_text};
+ghost use Rattle.mh_tell_show.specs.Auxiliary.{HasRun};
+ghost use Rattle.mh_tell_show.specs.Page.{deed_count, fitting, shown_events_text, most_deeds, shown_of, shown_text};
 
 use crate::event::push_shown;
 use mh_deeds::account::Account;

@@ -3,7 +3,7 @@
 ghost use Rattle.std.specs.{Prelude.{◌≡◌, ◌+◌, ◌<◌, ◌≤◌, ◌++◌, length, codes, IfOk, OnOk}, String.string_bytes};
 ghost use Rattle.mh_window_curve.specs.Points.{points_of};
 ghost use Rattle.mh_model.specs.{HistoryTexts.rules_number, declared.birth.TheConstants.LIFE, Limits.most_entries};
-ghost use Rattle.mh_tell_show.specs.Page.{HasRun, config_row, front_text, part_text, point_row};
+ghost use Rattle.mh_tell_show.specs.{Auxiliary.HasRun, Page.{config_row, front_text, part_text, point_row}};
 ghost use Rattle.mh_tell_show.specs.Rows.{listed, row_text};
 
 use crate::before::push_before;

@@ -6,7 +6,8 @@
 ghost use Rattle.std.specs.{Prelude.{◌≡◌, ◌-◌, ◌≤◌, length, take, drop, IfOk}, String.string_bytes};
 ghost use Rattle.mh_model.specs.Limits.{most_entries};
 ghost use Rattle.mh_script.specs.{Promised.IsPromisedRun, Run.transcript};
-ghost use Rattle.mh_tell_show.specs.Page.{ShowsReplies, events_asked, events_before, joined_pieces, page_text, run_text};
+ghost use Rattle.mh_tell_show.specs.Page.{ShowsReplies, events_asked, events_before, page_text, run_text};
+ghost use Rattle.mh_tell_show.specs.Auxiliary.{joined_pieces};
 ghost use Rattle.mh_text.specs.Devices.{IsWrite};
 
 use crate::controls::CONTROLS;

@@ -1,12 +1,12 @@
 -- Digits that a text begins with, and the number that the first word of a line is.
-use Rattle.std.proofs.Common.{◌≡◌, ◌⊎◌, ℕ, zero, suc, ◌+◌, ◌*◌, ◌-◌, ◌^◌, ◌<◌, ◌≤◌, ◌==◌, nat_lt, not, ◌&&◌, cond, Bool, true, false, Some, None, option_map, List, [], ◌∷◌, ◌++◌, length, get_or, take, drop, ap, sym, refl, subst, ◌∙◌, ⊎_elim, inl, inr, add-one, take-append-drop, drop-cons, arith}
+use Rattle.std.proofs.Common.{◌≡◌, ◌⊎◌, ℕ, zero, suc, ◌+◌, ◌*◌, ◌-◌, ◌^◌, ◌<◌, ◌≤◌, ◌==◌, not, ◌&&◌, cond, Bool, true, false, Some, None, option_map, List, [], ◌∷◌, ◌++◌, length, get_or, take, drop, ap, sym, refl, subst, ◌∙◌, ⊎_elim, inl, inr, add-one, take-append-drop, drop-cons, arith}
 use Rattle.std.proofs.lemmas.List.{get_or-take, length-take-le, take-take, take_all, take_rest}
 use Rattle.std.proofs.lemmas.List.Sums.{passes_at_first, position_or_len_is, prefix_len-le-length, prefix_len_passes, prefix_len_stops}
 use Rattle.std.proofs.{lemmas.Bool.Decides.nat_tests, lemmas.Bool.cases_lt, lemmas.Grind.common_steps}
 use Rattle.std.proofs.{Math.Nat.eq-or-lt_of_le, Math.Bool.{and-false, and-true}}
 use Rattle.std.specs.List.{list_all, prefix_len, take_while}
 use Rattle.mh_model.specs.Bytes.{Text, cut_after, words, is_digit, is_numeral, value_after, number, numbers}
-use Rattle.mh_text.specs.{Pieces.with_piece, Words.BeginsWithNumber}
+use Rattle.mh_text.specs.{Pieces.with_piece, Auxiliary.BeginsWithNumber}
 use Rattle.mh_text.proofs.PieceLemmas.{before, cut_first, cut_none}
 use Rattle.mh_text.proofs.WordLemmas.{numbers_next as word_next, numeral_digits, numeral_zero, value_after_grows}
 
@@ -14,10 +14,7 @@ use Rattle.mh_text.proofs.WordLemmas.{numbers_next as word_next, numeral_digits,
 
 pub value_next : (n place : ℕ) (text : Text) → place < length text → is_digit (get_or text place 0) ≡ true
     → value_after n (take_while is_digit (drop place text)) ≡ value_after (10 * n + (get_or text place 0 - 48)) (take_while is_digit (drop (place + 1) text))
-value_next n place text below digit =
-    let rest = drop (suc place) text in
-    let one : 1 + prefix_len is_digit rest ≡ suc (prefix_len is_digit rest) = omega arith in
-    rw (add-one, drop-cons text place 0, digit, one) refl
+value_next n place text below digit = grind (arith, add-one, drop-cons)
 
 pub value_step : (n v place : ℕ) (text : Text) → place < length text → v ≡ 10 * n + (get_or text place 0 - 48) → is_digit (get_or text place 0) ≡ true
     → value_after n (take_while is_digit (drop place text)) ≡ value_after v (take_while is_digit (drop (place + 1) text))
@@ -42,17 +39,12 @@ count_end place text past = let none : drop place text ≡ [] = grind (arith, co
 -- Numerals ---------------------------------------------------------------------------------------
 
 all_by : (is : Bool) (byte : ℕ) (bytes : Text) → is_digit byte ≡ is → list_all is_digit (take_while is_digit bytes) ≡ true → list_all is_digit (take (cond is (1 + prefix_len is_digit bytes) 0) (byte ∷ bytes)) ≡ true
-all_by true byte bytes same rest =
-    let one : 1 + prefix_len is_digit bytes ≡ suc (prefix_len is_digit bytes) = omega arith in
-    rw one (rw (same, rest) refl)
+all_by true byte bytes same rest = grind arith
 all_by false byte bytes same rest = refl
 
 all_digits : (text : Text) → list_all is_digit (take_while is_digit text) ≡ true
 all_digits [] = refl
 all_digits (byte ∷ bytes) = all_by (is_digit byte) byte bytes refl (all_digits bytes)
-
-length_digits : (text : Text) → length (take_while is_digit text) ≡ prefix_len is_digit text
-length_digits text = length-take-le (prefix_len is_digit text) text (prefix_len-le-length is_digit text)
 
 one_numeral : (word : Text) → length word ≡ 1 → list_all is_digit word ≡ true → is_numeral word ≡ true
 one_numeral [] one all = absurd (omega arith)
@@ -64,17 +56,13 @@ more_by word true first more all = numeral_zero word more first
 more_by word false first more all = numeral_digits word (omega arith) first ∙ all
 
 pub numeral_one : (text : Text) → 1 ≡ prefix_len is_digit text → is_numeral (take 1 text) ≡ true
-numeral_one text one =
-    let all : list_all is_digit (take 1 text) ≡ true = rw one (all_digits text) in
-    one_numeral (take 1 text) (length-take-le 1 text (omega (arith, prefix_len-le-length is_digit text))) all
+numeral_one text one = grind (arith, all_digits, one_numeral, length-take-le, prefix_len-le-length)
 
 pub numeral_more : (text : Text) (count : ℕ) → count ≡ prefix_len is_digit text → 1 < count → is_numeral (take count text) ≡ not (get_or text 0 0 == 48)
 numeral_more text count is more =
     let within : count ≤ length text = omega (arith, prefix_len-le-length is_digit text) in
     let long : length (take count text) ≡ count = length-take-le count text within in
-    let first : get_or (take count text) 0 0 ≡ get_or text 0 0 = get_or-take count text 0 0 (omega arith) in
-    let all : list_all is_digit (take count text) ≡ true = rw is (all_digits text) in
-    more_by (take count text) _ (ap (λ (byte : ℕ). byte == 48) first) (omega arith) all
+    grind (arith, get_or-take, all_digits, more_by)
 
 -- a word with a byte that is no digit is no numeral
 none_all : (word : Text) (place : ℕ) → place < length word → is_digit (get_or word place 0) ≡ false → list_all is_digit word ≡ false
@@ -95,17 +83,13 @@ not_numeral (byte ∷ next ∷ bytes) none = not_all_by (is_digit byte) (not (by
 -- The number that a word is ----------------------------------------------------------------------
 
 pub number_is : (word : Text) (value : ℕ) → is_numeral word ≡ true → value ≡ value_after 0 word → value < 2 ^ 64 → number word ≡ Some value
-number_is word value numeral is small =
-    let below : nat_lt (value_after 0 word) (2 ^ 64) ≡ true = grind (arith, nat_tests) in
-    rw (numeral, below, ← is) refl
+number_is word value numeral is small = grind (arith, nat_tests)
 
 no_numeral : (word : Text) → is_numeral word ≡ false → number word ≡ None
 no_numeral word none = rw none refl
 
 no_number : (word : Text) → 2 ^ 64 ≤ value_after 0 word → number word ≡ None
-no_number word large =
-    let past : nat_lt (value_after 0 word) (2 ^ 64) ≡ false = grind (arith, nat_tests) in
-    rw (past, and-false (is_numeral word)) refl
+no_number word large = grind (arith, nat_tests, and-false)
 
 -- a word that goes on after its digits is no numeral
 not_digits : (text : Text) (count long : ℕ) → count ≡ prefix_len is_digit text → count < long → long ≤ length text → is_numeral (take long text) ≡ false
@@ -115,8 +99,7 @@ not_digits text count long is more within =
     not_numeral (take long text) (none_all (take long text) count (omega (arith, length-take-le long text within)) byte)
 
 longer_numeral : (text : Text) (count long : ℕ) → count ≡ prefix_len is_digit text → count ≤ long → long ≤ length text → is_numeral (take count text) ≡ false → is_numeral (take long text) ≡ false
-longer_numeral text count long is more within none =
-    ⊎_elim (λ same. rw (← same) none) (λ other. not_digits text count long is other within) (eq-or-lt_of_le more)
+longer_numeral text count long is more within none = grind (arith, not_digits, eq-or-lt_of_le)
 
 -- A word from its digits ------------------------------------------------------------------------
 
@@ -130,9 +113,7 @@ whole_other word count whole none = no_numeral word (rw (take_all count word (om
 
 pub whole_number : (word : Text) (count value : ℕ) → count ≡ prefix_len is_digit word → count ≡ length word → is_numeral (take count word) ≡ true → value ≡ value_after 0 (take_while is_digit word) → value < 2 ^ 64
     → number word ≡ Some value
-whole_number word count value is whole numeral value_is small =
-    let all : take count word ≡ word = take_all count word (omega arith) in
-    number_is word value (rw all at numeral) (rw (← is, all) at value_is) small
+whole_number word count value is whole numeral value_is small = grind (arith, take_all, number_is)
 
 -- the digits of a text have no greater value than the text
 value_front : (n : ℕ) (front rest : Text) → value_after n (front ++ rest) ≡ value_after (value_after n front) rest
@@ -142,10 +123,7 @@ value_front n (byte ∷ front) rest = value_front (10 * n + (byte - 48)) front r
 value_longer : (text : Text) (count long : ℕ) → count ≤ long → value_after 0 (take count text) ≤ value_after 0 (take long text)
 value_longer text count long more =
     let same : take count text ++ drop count (take long text) ≡ take long text = rw (← take-take count long text more) (take-append-drop count (take long text)) in
-    let front = take count text in
-    let rest = drop count (take long text) in
-    let split : value_after 0 (take long text) ≡ value_after (value_after 0 front) rest = ap (value_after 0) (sym same) ∙ value_front 0 front rest in
-    omega (arith, split, value_after_grows (value_after 0 front) rest)
+    grind (arith, value_front, value_after_grows)
 
 true_not_false : (is : Bool) → is ≡ true → is ≡ false → ⊥
 true_not_false true yes_is no_is = cc
@@ -154,8 +132,7 @@ true_not_false false yes_is no_is = cc
 pub whole_large : (word : Text) → 2 ^ 64 ≤ value_after 0 (take_while is_digit word) → number word ≡ None
 whole_large word large =
     let all : take (length word) word ≡ word = take_all (length word) word (omega arith) in
-    let more : value_after 0 (take_while is_digit word) ≤ value_after 0 (take (length word) word) = value_longer word (prefix_len is_digit word) (length word) (prefix_len-le-length is_digit word) in
-    no_number word (omega (arith, ap (value_after 0) all, more))
+    grind (arith, value_longer, prefix_len-le-length, no_number)
 
 -- The first word of a line ------------------------------------------------------------------------
 
@@ -170,9 +147,7 @@ first_by line (inl below) = (words (drop (suc (before 32 line)) line), rw (cut_f
 first_by line (inr past) = ([], rw (cut_none 32 line past, take_all (before 32 line) line past) refl)
 
 numbers_none : (line : Text) → number (first_word line) ≡ None → numbers (words line) ≡ None
-numbers_none line none =
-    let first = first_by line (cases_lt (before 32 line) (length line)) in
-    rw (first.1, none) refl
+numbers_none line none = grind (arith, first_by, cases_lt, before)
 
 space_by : (digit space : Bool) (m n : ℕ) → (digit ≡ true → space ≡ false) → m ≤ n → cond digit (1 + m) 0 ≤ cond (not space) (1 + n) 0
 space_by true true m n other below = cc (other refl)
@@ -187,20 +162,16 @@ digits_before [] = omega arith
 digits_before (byte ∷ bytes) = space_by (is_digit byte) (byte == 32) _ _ (no_space byte) (digits_before bytes)
 
 pub first_too_large : (line : Text) → 2 ^ 64 ≤ value_after 0 (take_while is_digit line) → numbers (words line) ≡ None
-first_too_large line large =
-    numbers_none line (no_number (first_word line) (omega (arith, large, value_longer line (prefix_len is_digit line) (before 32 line) (digits_before line))))
+first_too_large line large = grind (arith, numbers_none, no_number, value_longer, before, digits_before)
 
 pub first_no_numeral : (line : Text) (count : ℕ) → count ≡ prefix_len is_digit line → is_numeral (take count line) ≡ false → numbers (words line) ≡ None
-first_no_numeral line count is none =
-    let within : count ≤ before 32 line = omega (arith, digits_before line, is) in
-    numbers_none line (no_numeral (first_word line) (longer_numeral line count (before 32 line) is within (before_within line) none))
+first_no_numeral line count is none = grind (arith, before, digits_before, numbers_none, no_numeral, longer_numeral, before_within)
 
 goes_on : (line : Text) (count : ℕ) → count ≡ prefix_len is_digit line → (count ≡ length line → ⊥) → count < length line
 goes_on line count is more = omega (arith, prefix_len-le-length is_digit line, more)
 
 space_at : (line : Text) (count : ℕ) → count ≡ prefix_len is_digit line → count < length line → (get_or line count 0 == 32) ≡ true → before 32 line ≡ count
-space_at line count is below space =
-    position_or_len_is (λ byte. byte == 32) line count 0 (omega arith) (λ k less. no_space _ (prefix_len_passes is_digit line k 0 (omega arith))) (λ _. space)
+space_at line count is below space = grind (arith, position_or_len_is, no_space, prefix_len_passes)
 
 pub first_then : (line : Text) (count value : ℕ) → count ≡ prefix_len is_digit line → (count ≡ length line → ⊥) → (get_or line count 0 == 32) ≡ true → is_numeral (take count line) ≡ true
     → value ≡ value_after 0 (take_while is_digit line) → value < 2 ^ 64 → BeginsWithNumber (words line) value (words (take (length line - (count + 1)) (drop (count + 1) line)))
@@ -217,13 +188,7 @@ first_then line count value is more space numeral value_is small =
 
 pub first_alone : (line : Text) (count value : ℕ) → count ≡ prefix_len is_digit line → count ≡ length line → is_numeral (take count line) ≡ true
     → value ≡ value_after 0 (take_while is_digit line) → value < 2 ^ 64 → BeginsWithNumber (words line) value []
-first_alone line count value is whole numeral value_is small =
-    let all : take count line ≡ line = take_all count line (omega arith) in
-    record {
-      word = line;
-      taken = rw (cut_none 32 line (omega (arith, digits_before line))) refl;
-      is = number_is line value (rw all at numeral) (rw (← is, all) at value_is) small;
-    }
+first_alone line count value is whole numeral value_is small = grind (arith, take_all, cut_none, digits_before, number_is)
 
 pub first_other : (line : Text) (count : ℕ) → count ≡ prefix_len is_digit line → (count ≡ length line → ⊥) → (get_or line count 0 == 32) ≡ false → numbers (words line) ≡ None
 first_other line count is more other =
@@ -241,6 +206,3 @@ numbers_next found n words left first = rw first.taken (word_next found first.wo
 
 pub numbers_stop : (found : List ℕ) (words : List Text) → numbers words ≡ None → option_map (λ more. found ++ more) (numbers words) ≡ None
 numbers_stop found words none = rw none refl
-
-pub length_left : (n : ℕ) (words left : List Text) → BeginsWithNumber words n left → length words ≡ suc (length left)
-length_left n words left first = rw first.taken refl

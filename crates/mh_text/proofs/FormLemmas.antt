@@ -6,7 +6,7 @@ use Rattle.mh_model.specs.{declared.command.Command.Command, declared.command.Co
 use Rattle.mh_model.specs.Forms.{within, u32, u64, command_rows, command_of, control_rows, control_of}
 use Rattle.mh_model.specs.{declared.history.Version.Version, declared.history.Version.TheVariants.{One, Two}}
 use Rattle.mh_text.specs.Words.{few_numbers}
-use Rattle.mh_text.specs.Rows.{said, rows_with_count, three_rows, two_rows, one_rows, no_rows, plain_rows}
+use Rattle.mh_text.specs.Auxiliary.{said, rows_with_count, three_rows, two_rows, one_rows, no_rows, plain_rows}
 use Rattle.mh_text.proofs.WordLemmas.{few_same, none_of}
 use Rattle.mh_text.proofs.RowLemmas.{are_distinct, are_short, formed_said, said_counted, said_long}
 use Rattle.mh_model.proofs.TextLemmas.{text_is}
@@ -58,8 +58,7 @@ pub control_said : (version : Version) (line : List Text) (verb : Text) (words :
 control_said version line verb words ns is few = rw is (formed_said (control_rows version) verb words ∙ rw (few_same words ns few) refl)
 
 pub control_none : (version : Version) (line : List Text) (verb : Text) (words : List Text) → line ≡ verb ∷ words → few_numbers words ≡ None → control_of version line ≡ None
-control_none version line verb words is few =
-    rw is (formed_said (control_rows version) verb words ∙ none_of (said (control_rows version) verb) (λ found many. said_long (control_rows version) verb found (control_short version) (omega arith)) words few)
+control_none version line verb words is few = grind (arith, formed_said, none_of, said_long, control_short)
 
 pub plain_said : (version : Version) (verb : Text) (ns : List ℕ) → length ns ≡ 0 → said (control_rows version) verb ns ≡ said (plain_rows version) verb []
 plain_said version verb [] none = said_counted (control_rows version) verb [] (control_distinct version)

@@ -2,7 +2,7 @@
 use Rattle.std.proofs.Common.{◌≡◌, ℕ, suc, ◌+◌, ◌-◌, ◌==◌, cond, Bool, true, false, Option, Some, None, option_map, List, [], ◌∷◌, ◌++◌, length, take, refl, sym, ap, ◌∙◌, append_assoc, length-append, arith}
 use Rattle.std.proofs.{lemmas.List.append-nil, lemmas.Bool.eq-eqb}
 use Rattle.mh_model.specs.{Bytes.{Text, Cut, cut_after, with_byte, words, is_text}, HistoryTexts.{Halves, halves_at}}
-use Rattle.mh_text.specs.Pieces.{with_piece, words_left}
+use Rattle.mh_text.specs.{Pieces.with_piece, Auxiliary.words_left}
 
 -- Words of a longer text -------------------------------------------------------------------------
 
@@ -24,10 +24,7 @@ cut_then end [] next = rw (eq-eqb end end refl) refl
 cut_then end (byte ∷ first) next = rw (cut_then end first next) (cut_then_by (byte == end) byte (cut_after end first) (cut_after end next))
 
 pub words_then : (first next : Text) → words (first ++ 32 ∷ next) ≡ words first ++ words next
-words_then first next =
-    let a = cut_after 32 first in
-    let b = cut_after 32 next in
-    rw (cut_then 32 first next) (append_assoc a.pieces (a.rest ∷ b.pieces) (b.rest ∷ []) ∙ sym (append_assoc a.pieces (a.rest ∷ []) (b.pieces ++ b.rest ∷ [])))
+words_then first next = grind (arith, cut_then, append_assoc)
 
 -- Up to a place ----------------------------------------------------------------------------------
 

@@ -4,7 +4,7 @@ use Rattle.std.proofs.{lemmas.List.map-append, lemmas.Bool.Decides.nat_tests}
 use Rattle.std.specs.{Prelude.{if◌then◌else◌, IfSome}, Cmp.Lexicographic.{pointwise, nat_list_eq_equiv}}
 use Rattle.std.specs.{List.{list_all, list_any, position}, Borrow.Bor}
 use Rattle.mh_model.specs.{Bytes.{Text, is_text, is_name}, Script.{session_number, with_name}}
-use Rattle.mh_text.specs.Names.{names_shown, IsKnown, AreKnown}
+use Rattle.mh_text.specs.{Names.names_shown, Auxiliary.{IsKnown, AreKnown}}
 use Rattle.mh_text.proofs.NamePlaces.{place, place_le_by, place_shown, number_found, number_missing}
 use Rattle.mh_model.proofs.TextLemmas.{text_is, text_itself}
 use Rattle.indexmap.specs.IndexSet.{insert_key}
@@ -31,16 +31,10 @@ some_below true n k p test found = grind (arith, nat_tests)
 some_below false n k p test found = cc
 
 pub known_name : (items : List (Bor (List ℕ))) (name : Text) (p : ℕ) → position (λ (seen : Bor (List ℕ)). is_text seen.now name) items ≡ Some p → with_name (names_shown items) name ≡ names_shown items
-known_name items name p found =
-    let count : length (names_shown items) ≡ length items = length_shown items in
-    let number : session_number (names_shown items) name ≡ place shown name items = place_shown shown name items in
-    let below : place shown name items < length items = some_below (nat_lt (place shown name items) (length items)) (place shown name items) (length items) p refl found in
-    with_name_by true (nat_le 8 (length (names_shown items))) (names_shown items) name (grind (arith, nat_tests)) refl
+known_name items name p found = grind (arith, length_shown, place, place_shown, some_below, with_name_by, nat_tests)
 
 pub added_name : (items : List (Bor (List ℕ))) (name : Bor (List ℕ)) → session_number (names_shown items) name.now ≡ length items → length items < 8 → with_name (names_shown items) name.now ≡ names_shown (items ++ name ∷ [])
-added_name items name is room =
-    let count : length (names_shown items) ≡ length items = length_shown items in
-    with_name_by false false (names_shown items) name.now (grind (arith, nat_tests)) (grind (arith, nat_tests)) ∙ sym (map-append (λ (seen : Bor (List ℕ)). seen.now) items (name ∷ []))
+added_name items name is room = grind (arith, length_shown, with_name_by, nat_tests, map-append)
 
 -- Keys of a set ----------------------------------------------------------------------------------
 
@@ -61,9 +55,7 @@ looked_up items name = λ j. position (λ (seen : Bor (List ℕ)). sym (same_key
 pub inserted_name : (items new : List (Bor (List ℕ))) (name : Bor (List ℕ)) → list_any (λ (seen : Bor (List ℕ)). pointwise nat_eq name.now seen.now) items ≡ false
     → new ≡ insert_key (λ (a b : Bor (List ℕ)). pointwise nat_eq a.now b.now) items name → position (λ (seen : Bor (List ℕ)). is_text seen.now name.now) items ≡ None → length items < 8
     → names_shown new ≡ with_name (names_shown items) name.now
-inserted_name items new name absent is missing room =
-    let last : new ≡ items ++ name ∷ [] = is ∙ ap (λ (known : Bool). if known then items else items ++ name ∷ []) absent in
-    ap names_shown last ∙ sym (added_name items name (place_missing items name.now missing) room)
+inserted_name items new name absent is missing room = grind (arith, added_name, place_missing)
 
 -- A name that was seen ---------------------------------------------------------------------------
 
@@ -82,26 +74,15 @@ abbrev IsSettled : List Text → List Text → Text → Type 0
 IsSettled names after name = (session_number after name ≡ session_number names name) × (with_name after name ≡ after)
 
 settled_by : (known full : Bool) (names : List Text) (name : Text) → nat_lt (session_number names name) (length names) ≡ known → nat_le 8 (length names) ≡ full → IsSettled names (with_name names name) name
-settled_by true full names name is past =
-    let same : with_name names name ≡ names = with_name_by true full names name is past in
-    subst (λ (after : List Text). IsSettled names after name) (sym same) (refl, same)
-settled_by false true names name is past =
-    let same : with_name names name ≡ names = with_name_by false true names name is past in
-    subst (λ (after : List Text). IsSettled names after name) (sym same) (refl, same)
-settled_by false false names name is past =
-    let same : with_name names name ≡ names ++ name ∷ [] = with_name_by false false names name is past in
-    let number = number_after names name in
-    let le = number_le names name in
-    let count : length (names ++ name ∷ []) ≡ length names + 1 = length-append names (name ∷ []) in
-    subst (λ (after : List Text). IsSettled names after name) (sym same) (number, with_name_by true (nat_le 8 (length (names ++ name ∷ []))) (names ++ name ∷ []) name (grind (arith, nat_tests)) refl)
+settled_by true full names name is past = grind (arith, with_name_by)
+settled_by false true names name is past = grind (arith, with_name_by)
+settled_by false false names name is past = grind (arith, with_name_by, number_after, number_le, length-append, nat_tests)
 
 settled : (names : List Text) (name : Text) → IsSettled names (with_name names name) name
 settled names name = settled_by (nat_lt (session_number names name) (length names)) (nat_le 8 (length names)) names name refl refl
 
 pub settled_name : (names after : List Text) (name : Text) (who : ℕ) → who ≡ session_number names name → after ≡ with_name names name → is_name name ≡ true → IsKnown after name who
-settled_name names after name who is same named =
-    let kept = settled names name in
-    subst (λ (after : List Text). IsKnown after name who) (sym same) (named, (kept.0 ∙ sym is, kept.1))
+settled_name names after name who is same named = grind (arith, settled)
 
 -- A name that is known stays so ------------------------------------------------------------------
 
@@ -116,8 +97,7 @@ number_prefix (x ∷ names) more name below = prefix_by (is_text x name) (sessio
 longer : (names : List Text) (name : Text) → names ++ name ∷ [] ≡ names → ⊥
 longer names name same =
     let count : length (names ++ name ∷ []) ≡ length names + 1 = length-append names (name ∷ []) in
-    let equal : length (names ++ name ∷ []) ≡ length names = ap length same in
-    omega arith
+    grind arith
 
 seen_by : (known : Bool) (names : List Text) (name : Text) → nat_lt (session_number names name) (length names) ≡ known → nat_le 8 (length names) ≡ false → with_name names name ≡ names → session_number names name < length names
 seen_by true names name is past same = grind (arith, nat_tests)
@@ -126,14 +106,7 @@ seen_by false names name is past same = absurd (longer names name (sym (with_nam
 known_by : (seen full : Bool) (names : List Text) (other name : Text) (who : ℕ) → nat_lt (session_number names other) (length names) ≡ seen → nat_le 8 (length names) ≡ full → IsKnown names name who → IsKnown (with_name names other) name who
 known_by true full names other name who is past known = subst (λ (after : List Text). IsKnown after name who) (sym (with_name_by true full names other is past)) known
 known_by false true names other name who is past known = subst (λ (after : List Text). IsKnown after name who) (sym (with_name_by false true names other is past)) known
-known_by false false names other name who is past known =
-    let same : with_name names other ≡ names ++ other ∷ [] = with_name_by false false names other is past in
-    let below : session_number names name < length names = seen_by _ names name refl past known.1.1 in
-    let number = number_prefix names (other ∷ []) name below in
-    let count : length (names ++ other ∷ []) ≡ length names + 1 = length-append names (other ∷ []) in
-    let there : nat_lt (session_number (names ++ other ∷ []) name) (length (names ++ other ∷ [])) ≡ true = grind (arith, nat_tests) in
-    let kept = with_name_by true _ (names ++ other ∷ []) name there refl in
-    subst (λ (after : List Text). IsKnown after name who) (sym same) (known.0, (number ∙ known.1.0, kept))
+known_by false false names other name who is past known = grind (arith, with_name_by, seen_by, number_prefix, length-append, nat_tests)
 
 known_more : (names : List Text) (other : Text) (it : Option (Bor (List ℕ) × ℕ)) → IfSome it (λ numbered. IsKnown names numbered.0.now numbered.1) → IfSome it (λ numbered. IsKnown (with_name names other) numbered.0.now numbered.1)
 known_more names other None known = tt
@@ -162,5 +135,4 @@ pub again : (names : List Text) (it : Option (Bor (List ℕ) × ℕ)) (seen : Bo
     → (who ≡ session_number names name) × (names ≡ with_name names name)
 again names it seen who name known is same =
     let text : seen.now ≡ name = text_is seen.now name same in
-    let there : IsKnown names seen.now who = subst (λ (it : Option (Bor (List ℕ) × ℕ)). IfSome it (λ numbered. IsKnown names numbered.0.now numbered.1)) is known in
-    (sym there.1.0 ∙ ap (session_number names) text, sym there.1.1 ∙ ap (with_name names) text)
+    grind arith

@@ -32,7 +32,4 @@ module _ {A : Type 0} (shown : A → Text) (name : Text) where
   number_found items p found = place_shown items ∙ some_by (nat_lt (place items) (length items)) (place items) p found
 
   pub number_missing : (items : List A) → position (λ item. is_text (shown item) name) items ≡ None → session_number (map shown items) name ≡ length items
-  number_missing items none =
-      let past : nat_lt (place items) (length items) ≡ false = none_by (nat_lt (place items) (length items)) (place items) none in
-      let le : place items ≤ length items = place_le items in
-      place_shown items ∙ grind (arith, nat_tests)
+  number_missing items none = grind (arith, none_by, place_le, place_shown, nat_tests)

@@ -24,10 +24,7 @@ CutsAt end byte bytes is n =
 
 cuts_at : (end byte : ℕ) (bytes : Text) (is : Bool) → CutsFirst end bytes → CutsAt end byte bytes is (cond (not is) (1 + before end bytes) 0)
 cuts_at end byte bytes true first below = refl
-cuts_at end byte bytes false first below =
-    let one : 1 + before end bytes ≡ suc (before end bytes) = omega arith in
-    let P : ℕ → Type 0 = λ n. with_byte byte (cut_after end bytes) ≡ with_piece (take n (byte ∷ bytes)) (cut_after end (drop n bytes)) in
-    subst P (sym one) (ap (with_byte byte) (first (omega arith)))
+cuts_at end byte bytes false first below = grind arith
 
 pub cut_first : (end : ℕ) (text : Text) → CutsFirst end text
 cut_first end [] below = absurd (omega arith)
@@ -79,11 +76,7 @@ place_searched end text None none =
     let all : before end text ≡ length text =
     position_or_len_is (λ b. b == end) text (length text) 0 (omega arith) (λ k below. not_true _ (none k (omega arith) below)) (λ below. absurd (omega arith)) in
     rw all (sym (none_at_end (length text)))
-place_searched end text (Some place) found =
-    let first = found.0 in
-    let is : before end text ≡ place =
-    position_or_len_is (λ b. b == end) text place 0 (omega arith) (λ k below. not_true _ (first.before k (omega arith) below)) (λ below. found.1) in
-    rw is (some_below place (length text) first.high)
+place_searched end text (Some place) found = grind (arith, position_or_len_is, not_true, some_below)
 
 pub place_found : (end place : ℕ) (text : Text) → position (λ b. b == end) text ≡ Some place → place < length text
 place_found end place text found = (place_or_none end text _ (Some place) refl found).1
@@ -92,8 +85,7 @@ pub split_some : (end place : ℕ) (text : Text) → position (λ b. b == end) t
     → cut_after end text ≡ with_piece (take place text) (cut_after end (take (length text - (place + 1)) (drop (place + 1) text)))
 split_some end place text found =
     let is = place_or_none end text _ (Some place) refl found in
-    let one : place + 1 ≡ suc (before end text) = omega (arith, is.0) in
-    rw (take_rest, one, is.0) (cut_first end text (omega (arith, is.0, is.1)))
+    grind (arith, take_rest, cut_first)
 
 pub split_none : (end : ℕ) (text : Text) → position (λ b. b == end) text ≡ None → cut_after end text ≡ record { pieces = []; rest = text }
 split_none end text found = cut_none end text (place_or_none end text _ None refl found)
@@ -102,9 +94,7 @@ split_none end text found = cut_none end text (place_or_none end text _ None ref
 alone_at : (end byte : ℕ) (bytes : Text) (is : Bool) → (byte == end) ≡ is → cut_after end (take (before end bytes) bytes) ≡ record { pieces = []; rest = take (before end bytes) bytes }
     → cut_after end (take (cond (not is) (1 + before end bytes) 0) (byte ∷ bytes)) ≡ record { pieces = []; rest = take (cond (not is) (1 + before end bytes) 0) (byte ∷ bytes) }
 alone_at end byte bytes true same rest = refl
-alone_at end byte bytes false same rest =
-    let one : 1 + before end bytes ≡ suc (before end bytes) = omega arith in
-    rw one (rw (same, rest) refl)
+alone_at end byte bytes false same rest = grind arith
 
 cut_alone : (end : ℕ) (text : Text) → cut_after end (take (before end text) text) ≡ record { pieces = []; rest = take (before end text) text }
 cut_alone end [] = refl
@@ -114,26 +104,17 @@ whole_at : (end byte : ℕ) (bytes : Text) (is : Bool) → (byte == end) ≡ is 
     → cond (not is) (1 + before end bytes) 0 < suc (length bytes)
     → byte ∷ bytes ≡ take (cond (not is) (1 + before end bytes) 0) (byte ∷ bytes) ++ end ∷ drop (cond (not is) (1 + before end bytes) 0) bytes
 whole_at end byte bytes true same rest below = let one : byte ≡ end = grind (arith, nat_tests) in ap (λ (b : ℕ). b ∷ bytes) one
-whole_at end byte bytes false same rest below =
-    let one : 1 + before end bytes ≡ suc (before end bytes) = omega arith in
-    rw one (ap (λ (t : Text). byte ∷ t) (rest (omega arith)))
+whole_at end byte bytes false same rest below = grind arith
 
 cut_whole : (end : ℕ) (text : Text) → before end text < length text → text ≡ take (before end text) text ++ end ∷ drop (suc (before end text)) text
 cut_whole end [] below = absurd (omega arith)
 cut_whole end (byte ∷ bytes) below = whole_at end byte bytes (byte == end) refl (cut_whole end bytes) below
 
 pub split_whole : (end place : ℕ) (text : Text) → position (λ b. b == end) text ≡ Some place → text ≡ take place text ++ end ∷ take (length text - (place + 1)) (drop (place + 1) text)
-split_whole end place text found =
-    let is = place_or_none end text _ (Some place) refl found in
-    let one : place + 1 ≡ suc (before end text) = omega (arith, is.0) in
-    let below : before end text < length text = omega (arith, is.0, is.1) in
-    let P : ℕ → Type 0 = λ n. text ≡ take n text ++ end ∷ drop (suc (before end text)) text in
-    rw (take_rest, one) (subst P (sym is.0) (cut_whole end text below))
+split_whole end place text found = grind (arith, place_or_none, take_rest, cut_whole)
 
 pub split_alone : (end place : ℕ) (text : Text) → position (λ b. b == end) text ≡ Some place → cut_after end (take place text) ≡ record { pieces = []; rest = take place text }
-split_alone end place text found =
-    let is = place_or_none end text _ (Some place) refl found in
-    rw is.0 (cut_alone end text)
+split_alone end place text found = grind (arith, place_or_none, cut_alone)
 
 -- the lines of a text without bytes
 pub empty_left : (number : ℕ) (text : Text) → IsTrue (length text == 0) ↔ (((lines_from number text).rest ≡ []) × ((lines_from number text).lines ≡ []))

@@ -1,17 +1,16 @@
 -- Lines of commands in their plain form.
-use Rattle.std.proofs.Common.{◌≡◌, ℕ, zero, suc, ◌+◌, ◌*◌, ◌-◌, ◌^◌, ◌<◌, ◌≤◌, ◌==◌, nat_lt, nat_le, not, ◌&&◌, ◌||◌, Bool, true, false, Some, None, List, [], ◌∷◌, ◌++◌, length, get_or, take, drop, ap, sym, refl, ◌∙◌, arith}
+use Rattle.std.proofs.Common.{◌≡◌, ℕ, zero, suc, ◌+◌, ◌*◌, ◌-◌, ◌^◌, ◌<◌, ◌≤◌, ◌==◌, nat_lt, not, ◌&&◌, ◌||◌, Bool, true, false, Some, None, List, [], ◌∷◌, ◌++◌, length, get_or, take, drop, ap, sym, refl, ◌∙◌, arith}
 use Rattle.std.proofs.{lemmas.List.{append-nil, take_rest}, lemmas.Bool.and_parts, lemmas.Bool.Decides.nat_tests}
-use Rattle.std.specs.{Prelude.{codes, if◌then◌else◌}, List.{list_all, prefix_len, take_while}}
+use Rattle.std.specs.{Prelude.if◌then◌else◌, List.{list_all, prefix_len, take_while}}
 use Rattle.mh_model.specs.{declared.command.Command.Command, declared.command.Event.Event}
 use Rattle.mh_model.specs.Bytes.{Text, Cut, cut_after, with_byte, words, is_text, is_digit, is_letter, is_numeral, is_name, value_after, number}
 use Rattle.mh_model.specs.Forms.{command_of}
 use Rattle.mh_text.specs.{declared.verbs.VerbOfThree.VerbOfThree, declared.verbs.VerbOfThree.TheVariants.New}
 use Rattle.mh_text.specs.{declared.verbs.VerbOfTwo.VerbOfTwo, declared.verbs.VerbOfTwo.TheVariants.Copy}
 use Rattle.mh_text.specs.{declared.verbs.VerbOfOne.VerbOfOne, declared.verbs.VerbOfOne.TheVariants.{Clear, Shape}}
-use Rattle.mh_text.specs.{Pieces.{lines_from, with_piece}, Names.IsKnown, Rows.{said, one_rows, two_rows, three_rows}}
+use Rattle.mh_text.specs.Pieces.{lines_from, with_piece}
+use Rattle.mh_text.specs.Auxiliary.{IsKnown, said, one_rows, two_rows, three_rows, BeginsWithLine, BeginsWithCommand, BeginsWithName, BeginsWithNumberBefore, TakesEvent, one_word, two_word, three_word}
 use Rattle.mh_text.specs.Words.{few_numbers}
-use Rattle.mh_text.specs.Plain.{BeginsWithLine, BeginsWithCommand, BeginsWithName, BeginsWithNumberBefore, TakesEvent}
-use Rattle.mh_text.specs.Verbs.{one_word, two_word, three_word}
 use Rattle.mh_model.proofs.TextLemmas.{text_is}
 use Rattle.mh_text.proofs.{DigitLemmas.number_is, FormLemmas.{command_said, one_counted, two_counted, three_counted}}
 use Rattle.mh_model.specs.Script as book
@@ -51,10 +50,7 @@ front_rest (byte ∷ bytes) rest = ap (with_byte byte) (front_rest bytes rest)
 
 -- a word with an end is a piece
 cut_word : (end : ℕ) (word rest : Text) → lacks end word ≡ true → cut_after end (word ++ end ∷ rest) ≡ with_piece word (cut_after end rest)
-cut_word end word rest none =
-    let is : (end == end) ≡ true = grind (arith, nat_tests) in
-    let here : cut_after end (end ∷ rest) ≡ with_piece [] (cut_after end rest) = rw is refl in
-    cut_front end word (end ∷ rest) none ∙ (ap (front word) here ∙ (front_piece word [] (cut_after end rest) ∙ ap (λ (w : Text). with_piece w (cut_after end rest)) (append-nil word)))
+cut_word end word rest none = grind (arith, nat_tests, cut_front, front_piece, append-nil)
 
 -- Words of a line --------------------------------------------------------------------------------
 
@@ -88,10 +84,7 @@ line_more text word more ws rest whole none begins =
 -- What is a word ---------------------------------------------------------------------------------
 
 digit_is : (byte end : ℕ) → end < 48 → is_digit byte ≡ true → not (byte == end) ≡ true
-digit_is byte end low is =
-    let both = and_parts (nat_le 48 byte) (nat_le byte 57) is in
-    let other : (byte == end) ≡ false = grind (arith, nat_tests) in
-    ap not other
+digit_is byte end low is = grind (arith, and_parts, nat_tests)
 
 digits_lack : (end : ℕ) (word : Text) → end < 48 → list_all is_digit word ≡ true → lacks end word ≡ true
 digits_lack end [] low all = refl
@@ -103,25 +96,18 @@ digits_lack end (byte ∷ bytes) low all =
 numeral_all : (word : Text) → is_numeral word ≡ true → list_all is_digit word ≡ true
 numeral_all [] is = refl
 numeral_all (byte ∷ []) is = rw is refl
-numeral_all (byte ∷ next ∷ bytes) is =
-    let both = and_parts (is_digit byte) (not (byte == 48) && list_all is_digit (next ∷ bytes)) is in
-    let rest = and_parts (not (byte == 48)) (list_all is_digit (next ∷ bytes)) both.1 in
-    rw (both.0) rest.1
+numeral_all (byte ∷ next ∷ bytes) is = grind (arith, and_parts)
 
 number_by : (is : Bool) (word : Text) (n : ℕ) (small : Bool) (value : ℕ) → is_numeral word ≡ is → (if is && small then Some value else None) ≡ Some n → is_numeral word ≡ true
 number_by true word n small value same found = same
 number_by false word n small value same found = cc
 
 pub number_word : (word : Text) (n : ℕ) → number word ≡ Some n → IsWord word
-number_word word n found =
-    let all = numeral_all word (number_by (is_numeral word) word n _ _ refl found) in
-    (digits_lack 32 word (omega arith) all, digits_lack 10 word (omega arith) all)
+number_word word n found = grind (arith, numeral_all, number_by, digits_lack)
 
 -- a byte of a name
 name_byte : (byte end : ℕ) → end < 48 → (is_letter byte || is_digit byte) ≡ true → not (byte == end) ≡ true
-name_byte byte end low is =
-    let other : (byte == end) ≡ false = grind (arith, nat_tests) in
-    ap not other
+name_byte byte end low is = grind (arith, nat_tests)
 
 name_bytes : (end : ℕ) (word : Text) → end < 48 → list_all (λ c. is_letter c || is_digit c) word ≡ true → lacks end word ≡ true
 name_bytes end [] low all = refl
@@ -131,17 +117,11 @@ name_bytes end (byte ∷ bytes) low all =
     rw (one, name_bytes end bytes low both.1) refl
 
 letter_is : (byte end : ℕ) → end < 48 → is_letter byte ≡ true → not (byte == end) ≡ true
-letter_is byte end low is =
-    let other : (byte == end) ≡ false = grind (arith, nat_tests) in
-    ap not other
+letter_is byte end low is = grind (arith, nat_tests)
 
 name_lacks : (end : ℕ) (word : Text) → end < 48 → is_name word ≡ true → lacks end word ≡ true
 name_lacks end [] low is = refl
-name_lacks end (byte ∷ bytes) low is =
-    let first = and_parts (is_letter byte) _ is in
-    let rest = and_parts (list_all (λ c. is_letter c || is_digit c) bytes) _ first.1 in
-    let one : not (byte == end) ≡ true = letter_is byte end low first.0 in
-    rw (one, name_bytes end bytes low rest.0) refl
+name_lacks end (byte ∷ bytes) low is = grind (arith, and_parts, letter_is, name_bytes)
 
 pub name_word : (word : Text) → is_name word ≡ true → IsWord word
 name_word word is = (name_lacks 32 word (omega arith) is, name_lacks 10 word (omega arith) is)
@@ -211,32 +191,14 @@ letter_other byte other is low = grind (arith, nat_tests)
 line_named : (line name : Text) (more : List Text) (after : Text) (command : Command) → line ≡ name ++ 32 ∷ after → words line ≡ name ∷ more → is_name name ≡ true → command_of more ≡ Some command
     → book.line_of line ≡ book.Calls name command
 line_named line [] more after command whole says named is = cc
-line_named line (byte ∷ bytes) more after command whole says named is =
-    let letter = (and_parts (is_letter byte) _ named).0 in
-    let full : book.is_blank line ≡ false = ap book.is_blank whole ∙ letter_other byte 35 letter (omega arith) in
-    let star : is_text (byte ∷ bytes) (codes "*") ≡ false = rw (letter_other byte 42 letter (omega arith)) refl in
-    rw (full, says, star, named, is) refl
+line_named line (byte ∷ bytes) more after command whole says named is = grind (arith, and_parts, letter_other)
 
 pub takes_event : (names : List Text) (first who : ℕ) (text t rest : Text) (command : Command) → BeginsWithName names text who t → BeginsWithCommand t command rest
     → TakesEvent names (lines_from first text) (lines_from (first + 1) rest) (Event.Session who command)
 unfolding line_more
 takes_event names first who text t rest command named begins =
     let line = line_more text named.name t begins.said rest named.whole (name_word named.name named.known.0) begins.begins in
-    record {
-      line = line.line;
-      takes = record {
-        numbered = refl;
-        taken = ap (λ (c : Cut). c.pieces) line.cut;
-        after = sym (ap (λ (c : Cut). c.rest) line.cut);
-        counted = omega arith;
-      };
-      name = named.name;
-      command = command;
-      says = line_named line.line named.name begins.said begins.begins.line command refl line.says named.known.0 begins.is;
-      who = who;
-      known = named.known;
-      is = refl;
-    }
+    grind (arith, line_named)
 
 -- Texts that are cut at a place ------------------------------------------------------------------
 

@@ -1,11 +1,11 @@
 -- Tables of forms: their words, and their rows by how many numbers they have.
-use Rattle.std.proofs.Common.{◌≡◌, ℕ, suc, ◌<◌, ◌==◌, nat_lt, ◌&&◌, Bool, true, false, Option, Some, None, option_and_then, List, [], ◌∷◌, length, map, ap, sym, refl, ◌∙◌, arith}
+use Rattle.std.proofs.Common.{◌≡◌, ℕ, suc, ◌<◌, ◌==◌, nat_lt, ◌&&◌, Bool, true, false, Option, Some, None, option_and_then, List, [], ◌∷◌, length, map, ap, sym, refl, arith}
 use Rattle.std.proofs.{lemmas.Bool.Decides.nat_tests, Math.Bool.and-false, lemmas.Bool.and_parts}
 use Rattle.std.specs.Prelude.{if◌then◌else◌}
 use Rattle.mh_model.proofs.TextLemmas.{text_is}
 use Rattle.mh_model.specs.Bytes.{Text, is_text, numbers}
 use Rattle.mh_model.specs.Forms.{Form, within, form_of, formed, are_below, Row, row_form}
-use Rattle.mh_text.specs.Rows.{said, rows_with_count}
+use Rattle.mh_text.specs.Auxiliary.{said, rows_with_count}
 
 -- Words ------------------------------------------------------------------------------------------
 
@@ -71,9 +71,7 @@ said_by true false r rs verb ns count same none rest = rw same rest
 said_by false false r rs verb ns count same none rest = rest
 said_by false true r rs verb ns count same none rest =
     let word : r.verb ≡ verb = sym (text_is verb r.verb same) in
-    let other : length r.bounds ≡ length ns → ⊥ = λ e. grind (arith, nat_tests) in
-    let absent : is_absent verb rs ≡ true = ap (λ (v : Text). is_absent v rs) (sym word) ∙ none in
-    rw (below_other r.bounds ns other) (sym (said-absent (rows_with_count (length ns) rs) verb ns (counted-absent rs (length ns) verb absent)))
+    grind (arith, nat_tests, below_other, said-absent, counted-absent)
 
 -- numbers are read by the rows with as many
 pub said_counted : {X : Type 0} (rows : List (Row X)) (verb : Text) (ns : List ℕ) → are_distinct rows ≡ true → said rows verb ns ≡ said (rows_with_count (length ns) rows) verb ns

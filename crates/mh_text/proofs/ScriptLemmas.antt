@@ -7,8 +7,8 @@ use Rattle.mh_model.specs.{declared.command.Control.Control, declared.command.Ev
 use Rattle.mh_model.specs.Bytes.{Text, words, cut_after}
 use Rattle.mh_model.specs.Script.{Reading, BadLine, Means, Blank, Calls, Asks, Wrong, line_of, is_blank, config_words, session_number, with_name, with_event, at_end, events_from, script_from, reading}
 use Rattle.mh_text.specs.{declared.text_error.TextError.TextError, Pieces.{Lines, TakesLine, lines_from}}
-use Rattle.mh_text.specs.Plain.{TakesEvent}
-use Rattle.mh_text.specs.Reading.{script_left, events_left, with_config, TakesConfig, HasEvent, BeginsWithEvent}
+use Rattle.mh_text.specs.Auxiliary.{TakesEvent, script_left, events_left, with_config, TakesConfig, HasEvent}
+use Rattle.mh_text.specs.Reading.{BeginsWithEvent}
 
 -- Readings ---------------------------------------------------------------------------------------
 
@@ -93,17 +93,14 @@ walks_blank old mid new names es n line done takes is = walks_line old mid new n
 
 pub walks_calls : (old mid new : Lines) (names : List Text) (es : List Event) (n : ℕ) (line name : Text) (command : Command) → Walks old mid names es → TakesLine mid new n line → line_of line ≡ Calls name command
     → Walks old new (with_name names name) (es ++ Event.Session (session_number names name) command ∷ [])
-walks_calls old mid new names es n line name command done takes is =
-    walks_line old mid new names (with_name names name) es (es ++ Event.Session (session_number names name) command ∷ []) n line done takes (λ more rest. rw (is, with_events-push) refl)
+walks_calls old mid new names es n line name command done takes is = grind (arith, walks_line, with_events-push)
 
 pub walks_called : (old mid new : Lines) (names seen : List Text) (es fs : List Event) (n : ℕ) (line name : Text) (command : Command) (who : ℕ) → Walks old mid names es → TakesLine mid new n line → line_of line ≡ Calls name command
     → who ≡ session_number names name → seen ≡ with_name names name → fs ≡ es ++ Event.Session who command ∷ [] → Walks old new seen fs
-walks_called old mid new names seen es fs n line name command who done takes is number added pushed =
-    rw (added, pushed, number) (walks_calls old mid new names es n line name command done takes is)
+walks_called old mid new names seen es fs n line name command who done takes is number added pushed = grind (arith, walks_calls)
 
 pub walks_known : (old mid new : Lines) (names : List Text) (es : List Event) (taken : Event) → Walks old mid names es → TakesEvent names mid new taken → Walks old new names (es ++ taken ∷ [])
-walks_known old mid new names es taken done takes =
-    rw takes.is (walks_called old mid new names names es (es ++ Event.Session takes.who takes.command ∷ []) mid.number takes.line takes.name takes.command takes.who done takes.takes takes.says (sym takes.known.1.0) (sym takes.known.1.1) refl)
+walks_known old mid new names es taken done takes = grind (arith, walks_called)
 
 pub event_fewer : (old new : Lines) (names : List Text) (taken : Event) → TakesEvent names old new taken → length new.lines < length old.lines
 event_fewer old new names taken takes = let one : length old.lines ≡ suc (length new.lines) = ap length takes.takes.taken in omega arith

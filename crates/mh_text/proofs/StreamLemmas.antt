@@ -1,5 +1,5 @@
 -- What calls in a row make of a device.
-use Rattle.std.proofs.Common.{◌≡◌, ◌∙◌, sym, ℕ, ◌+◌, ◌-◌, ◌<◌, take, drop, length, length-append, take-append-drop, arith}
+use Rattle.std.proofs.Common.{◌∙◌, sym, ℕ, ◌+◌, ◌-◌, ◌<◌, take, drop, length, length-append, take-append-drop, arith}
 use Rattle.std.proofs.{KnownBytes.{Appends-kept, Appends-trans, Consumes-trans}, lemmas.Grind.common_steps}
 use Rattle.std.proofs.Math.Seq.{take-add}
 use Rattle.mh_model.specs.Bytes.{Text}
@@ -7,11 +7,7 @@ use Rattle.mh_text.specs.Devices.{Device, FailsAt, FailsAtOnce, Gives, GivesSome
 
 -- a source gave some bytes, and then one at least
 pub gives-some : {a b c : Device} {text more : Text} → Gives a b text → Gives b c more → 0 < length more → GivesSome a c
-gives-some {a} {b} {c} {text} {more} before after some = record {
-  text = _;
-  some = omega (arith, length-append text more);
-  gives = record { bytes = Consumes-trans a.bytes b.bytes c.bytes text more before.bytes after.bytes; works = after.works ∙ before.works };
-}
+gives-some {a} {b} {c} {text} {more} before after some = grind (arith, length-append, Consumes-trans)
 
 -- a sink was given the text up to a place, and then failed
 pub takes-fails : {a b c : Device} (text : Text) (i : ℕ) → Takes a b (take i text) → FailsAtOnce b c → FailsAt a c text
@@ -22,9 +18,4 @@ takes-fails {a} {b} {c} text i before failed = record {
 
 -- the text up to a place, and then more of it from there
 pub takes-more : {a b c : Device} (text : Text) (i n : ℕ) → Takes a b (take i text) → Takes b c (take n (take (length text - i) (drop i text))) → Takes a c (take (i + n) text)
-takes-more {a} {b} {c} text i n before more =
-    let whole : take (length text - i) (drop i text) ≡ drop i text = grind (arith, common_steps) in
-    record {
-      bytes = rw (take-add i n text) (Appends-trans a.bytes b.bytes c.bytes _ _ before.bytes (rw whole at more.bytes));
-      works = more.works ∙ before.works;
-    }
+takes-more {a} {b} {c} text i n before more = grind (arith, common_steps, take-add, Appends-trans)

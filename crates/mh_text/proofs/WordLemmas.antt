@@ -49,10 +49,7 @@ length_next : (first : Option ℕ) (more : Option (List ℕ)) (count : ℕ) (fou
     → option_and_then (λ n. option_map (λ ns. n ∷ ns) more) first ≡ Some found → length found ≡ suc count
 length_next None more count found same is = cc
 length_next (Some n) None count found same is = cc
-length_next (Some n) (Some ns) count found same is =
-    let all : n ∷ ns ≡ found = cc in
-    let one : length ns ≡ count = same ns refl in
-    rw (← all, one) refl
+length_next (Some n) (Some ns) count found same is = grind arith
 
 pub length_numbers : (words : List Text) (found : List ℕ) → numbers words ≡ Some found → length found ≡ length words
 length_numbers [] found is = let none : [] ≡ found = cc in rw (← none) refl

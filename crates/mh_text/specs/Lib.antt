@@ -1,12 +1,9 @@
 pub mod Devices
 pub mod Pieces
 pub mod Words
-pub mod Rows
 pub mod Line
 pub mod TextErrors
 pub mod Names
-pub mod Verbs
-pub mod Plain
-pub mod Taken
 pub mod Reading
 pub mod ReplyWords
+pub mod Auxiliary

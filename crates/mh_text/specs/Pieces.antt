@@ -1,19 +1,10 @@
 -- What is left of a text that is read piece by piece.
-use Rattle.std.specs.{Prelude.{◌≡◌, ℕ, suc, Option, Some, None, option_map, List, [], ◌∷◌}, Borrow.Bor}
-use Rattle.mh_model.specs.Bytes.{Text, Cut, cut_after, words}
+use Rattle.std.specs.Prelude.{◌≡◌, ℕ, suc, List, ◌∷◌}
+use Rattle.mh_model.specs.Bytes.{Text, Cut, cut_after}
 
 -- a cut with one more piece in front
 abbrev pub with_piece : Text → Cut → Cut
 with_piece piece cut = record { pieces = piece ∷ cut.pieces; rest = cut.rest }
-
--- the text that a reference points to, if there is one
-abbrev pub text_shown : Option (Bor (List ℕ)) → Option Text
-text_shown text = option_map (λ text. text.now) text
-
--- the words of a text, if there is one
-abbrev pub words_left : Option Text → List Text
-words_left None = []
-words_left (Some text) = words text
 
 -- the lines of a script that are left, the number of the first of them, and what stands after the last
 pub record Lines : Type 0 where

@@ -3,8 +3,7 @@
 //! verb.
 ghost use Rattle.std.specs.Prelude.{◌≡◌, ℕ, None, List, [], IfSome, IfNone};
 ghost use Rattle.mh_model.specs.Forms.{command_rows, command_of, control_rows, control_of};
-ghost use Rattle.mh_text.specs.Rows.{said, three_rows, two_rows, one_rows, plain_rows};
-ghost use Rattle.mh_text.specs.Verbs.{one_word, three_word, two_word};
+ghost use Rattle.mh_text.specs.Auxiliary.{said, three_rows, two_rows, one_rows, plain_rows, one_word, three_word, two_word};
 
 use crate::pieces::Words;
 use crate::verbs::{VerbOfOne, VerbOfThree, VerbOfTwo};

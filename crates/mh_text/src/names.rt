@@ -6,7 +6,7 @@
 ghost use Rattle.std.specs.Prelude.{◌≡◌, ◌+◌, ◌<◌, ◌≤◌, ◌^◌, true, is_none, [], length, IfOk, IfSome, OnOk, OnErr};
 ghost use Rattle.std.specs.List.{list_all};
 ghost use Rattle.mh_model.specs.{Bytes.is_text, Script.{session_number, with_name}};
-ghost use Rattle.mh_text.specs.{Names.{names_in, names_shown}, Plain.BeginsWithName};
+ghost use Rattle.mh_text.specs.{Names.{names_in, names_shown}, Auxiliary.BeginsWithName};
 
 use crate::line::{Line, line_of};
 use crate::pieces::Lines;
@@ -56,7 +56,7 @@ pub struct Names<'a> {
 
 impl<'a> Model for Names<'a> {
     ghost use Rattle.std.specs.Prelude.{List, ℕ, ◌≤◌, length};
-    ghost use Rattle.mh_text.specs.Names.{names_shown, AreKnown};
+    ghost use Rattle.mh_text.specs.{Names.names_shown, Auxiliary.AreKnown};
 
     ghost Value = { List (List ℕ) };
 

@@ -2,7 +2,7 @@
 //! cutting takes no memory.
 ghost use Rattle.std.specs.Prelude.{◌≡◌, ◌==◌, ◌<◌, ◌^◌, ◌+◌, ◌↔◌, [], ◌∷◌, ◌++◌, length, position, Some, None, IfSome, IfNone, IsTrue};
 ghost use Rattle.mh_model.specs.{Bytes.{cut_after, words}, HistoryTexts.halves_at};
-ghost use Rattle.mh_text.specs.Pieces.{with_piece, lines_from, TakesLine, text_shown, words_left};
+ghost use Rattle.mh_text.specs.{Pieces.{with_piece, lines_from, TakesLine}, Auxiliary.{text_shown, words_left}};
 
 use crate::word::is_word;
 use memchr::memchr;
@@ -69,7 +69,7 @@ pub struct Words<'a> {
 
 impl<'a> Model for Words<'a> {
     ghost use Rattle.std.specs.Prelude.{List, ℕ};
-    ghost use Rattle.mh_text.specs.Pieces.{text_shown, words_left};
+    ghost use Rattle.mh_text.specs.Auxiliary.{text_shown, words_left};
 
     ghost Value = { List (List ℕ) };
 

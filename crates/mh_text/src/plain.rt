@@ -3,7 +3,7 @@
 //!
 //! Its calls are inlined into the loop that reads a script, so what they hand on stays in registers.
 ghost use Rattle.std.specs.Prelude.{◌≡◌, ◌<◌, ◌++◌, ◌∷◌, length, IfSome, IfNone};
-ghost use Rattle.mh_text.specs.{Plain.{BeginsWithCommand, BeginsWithNumberBefore, TakesEvent}, Verbs.verb_word};
+ghost use Rattle.mh_text.specs.Auxiliary.{BeginsWithCommand, BeginsWithNumberBefore, TakesEvent, verb_word};
 
 use crate::names::Names;
 use crate::pieces::Lines;

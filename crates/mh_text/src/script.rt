@@ -2,9 +2,8 @@
 //! Otherwise its first bad line is named. Out of memory is answered only if the text begins with an event (`memory`).
 ghost use Rattle.std.specs.Prelude.{◌≡◌, ◌≢◌, [], IfOk, IfErr, IfSome, IfNone, IsErrOf};
 ghost use Rattle.mh_model.specs.Script.{Means, reading};
-ghost use Rattle.mh_text.specs.Taken.{TakesNext};
-ghost use Rattle.mh_text.specs.Reading.{TakesConfig, HasEvent, BeginsWithEvent, script_left, events_left};
-ghost use Rattle.mh_text.specs.TextErrors.{Refuses};
+ghost use Rattle.mh_text.specs.Auxiliary.{TakesNext, TakesConfig, HasEvent, script_left, events_left};
+ghost use Rattle.mh_text.specs.{Reading.BeginsWithEvent, TextErrors.Refuses};
 
 use crate::line::{Line, config_line, is_blank, line_of};
 use crate::names::Names;

@@ -1,6 +1,6 @@
 //! The verbs of commands that numbers follow, by how many follow them, and the command that each is with its numbers.
 ghost use Rattle.std.specs.Prelude.{◌≡◌, Some, [], ◌∷◌};
-ghost use Rattle.mh_text.specs.{Verbs.{one_word, three_word, two_word}, Rows.{said, one_rows, three_rows, two_rows}};
+ghost use Rattle.mh_text.specs.Auxiliary.{one_word, three_word, two_word, said, one_rows, three_rows, two_rows};
 
 use crate::word::small;
 use mh_model::command::Command;

@@ -4,8 +4,8 @@ ghost use Rattle.std.specs.Prelude.{◌≡◌, nat_lt, true, ◌<◌, ◌≤◌,
 ghost use Rattle.std.specs.List.{list_all, prefix_len, take_while};
 ghost use Rattle.mh_model.specs.Bytes.{is_text, is_digit, is_letter, is_numeral, is_name, value_after, number, numbers, words};
 ghost use Rattle.mh_model.specs.Forms.{within, u32};
-ghost use Rattle.mh_text.specs.{Pieces.{text_shown, words_left}, Plain.BeginsWithNumberBefore};
-ghost use Rattle.mh_text.specs.Words.{BeginsWithNumber, few_numbers};
+ghost use Rattle.mh_text.specs.Auxiliary.{text_shown, words_left, BeginsWithNumberBefore, BeginsWithNumber};
+ghost use Rattle.mh_text.specs.Words.{few_numbers};
 
 use crate::pieces::Words;
 use arrayvec::ArrayVec;

@@ -7,7 +7,7 @@ use Rattle.mh_orders.specs.declared.promises.Round.{Round}
 use Rattle.mh_report.specs.Windows.{next_window}
 use Rattle.mh_windows.specs.{Always.{GoToTheEnd, HasLeast}, Lowest.IsLowest, declared.always.WindowLeast.WindowLeast}
 use Rattle.mh_windows.proofs.LowestLemmas.{lowest_is_least}
-use Rattle.mh_window_curve.specs.{Places.{AddsPlace, ArePlaced, GoOn, windows_of_pauses}, Points.windows_from}
+use Rattle.mh_window_curve.specs.{Auxiliary.AddsPlace, Places.{ArePlaced, GoOn, windows_of_pauses}, Points.windows_from}
 use Rattle.mh_window_curve.specs.PauseTexts.{row_text, rows_text}
 use Rattle.mh_window_curve.proofs.WindowLemmas.{windows-last, windows-more}
 
@@ -27,9 +27,6 @@ pub record HasPlaces (letters : List Letter) (window : ℕ) (points : List Windo
   pub whole : (points' : List WindowLeast) (places' : List ℕ) → ArePlaced letters (windows_from most window (length letters)) points' places' → ArePlaced letters all (points ++ points') (places ++ places')
 
 module _ (letters : List Letter) where
-  pub places_none : (window : ℕ) (points : List WindowLeast) (places : List ℕ) → points ≡ [] → places ≡ [] → HasPlaces letters window points places (windows_from (length letters) window (length letters))
-  places_none window points places no_point no_place = rw (no_point, no_place) (record { most = length letters; enough = omega arith; whole = λ points' places' placed. placed })
-
   pub places_more : (window : ℕ) (points points' : List WindowLeast) (places places' all : List ℕ) → HasPlaces letters window points places all → window < length letters → AddsPlace letters window points points' places places'
       → HasPlaces letters (next_window window) points' places' all
   places_more window points points' places places' all has short adds = by has.most has.enough has.whole where

@@ -2,19 +2,18 @@
 use Rattle.std.proofs.Common.{◌≡◌, ◌∙◌, ℕ, ◌<◌, ◌≤◌, ◌++◌, Bool, true, false, nat_lt, if◌then◌else◌, List, [], ◌∷◌, length, inl, inr, refl, ap, sym, subst, length-append, arith}
 use Rattle.std.proofs.lemmas.Bool.Decides.{nat_tests}
 use Rattle.std.specs.Prelude.{Result, Ok, Err}
-use Rattle.mh_model.specs.{declared.history.Version.TheVariants.Two, Bytes.{Text, line_text}}
+use Rattle.mh_model.specs.{declared.history.Version.TheVariants.Two, Bytes.Text}
 use Rattle.mh_model.specs.{HistoryTexts.{Recorded, recorded_reading}, Script.{Reading, BadLine, Means}, Trace.Letter}
-use Rattle.mh_model.specs.{declared.birth.TheConstants.LIFE, Replies.bad_line_text}
 use Rattle.mh_history.proofs.HistoryLemmas.{record_long}
 use Rattle.mh_reasons.specs.{declared.history_reason.HistoryReason.HistoryReason, HistoryReasons.IsHistoryReason}
 use Rattle.mh_script.specs.declared.fault.ScriptFault.{ScriptFault, TheVariants.{Read, Write, NoMemory, HistoryFull}}
 use Rattle.mh_window_curve.specs.declared.end.CurveEnd.{CurveEnd}
 use Rattle.mh_window_curve.specs.declared.end.CurveEnd.TheVariants.{Drawn, ScriptRefused, HistoryRefused, HistoryTooLong, LogRefused}
 use Rattle.mh_window_curve.specs.{declared.kind.TextKind.TextKind, declared.kind.TextKind.TheVariants.{History, Pauses}}
-use Rattle.mh_window_curve.specs.Drawings.{HasLetters, IsBadLine, IsDrawnText, IsOfText, TakesToDraw}
-use Rattle.mh_window_curve.specs.Histories.{IsLongHistory, letters_of_entries, recorded_curve, short_reading}
-use Rattle.mh_window_curve.specs.{PauseTexts.IsOfLog, Runs.{EndsSo, IsTextOutput}, declared.drawing.Drawing.Drawing}
-use Rattle.mh_orders.specs.declared.{curve.CurveOptions.CurveOptions, promises.Promises.Promises}
+use Rattle.mh_window_curve.specs.{Drawings.{HasLetters, IsOfText, TakesToDraw}, Auxiliary.IsBadLine}
+use Rattle.mh_window_curve.specs.{Histories.{recorded_curve, short_reading}, PauseTexts.IsOfLog}
+use Rattle.mh_window_curve.specs.Runs.{EndsSo, IsTextOutput}
+use Rattle.mh_orders.specs.declared.curve.CurveOptions.{CurveOptions}
 use Rattle.mh_window_pauses.specs.declared.reason.PauseReason.{PauseReason}
 use Rattle.mh_window_pauses.specs.{Logs.{bounded, line_as_pause, pause_reading}, Reasons.IsPauseReason}
 use Rattle.mh_history.specs.Beginnings.{entries_left}
@@ -72,21 +71,6 @@ letters_same Pauses text other letters same has = same ∙ has
 written_same : (kind : TextKind) (options : CurveOptions) (text other written : Text) → Same kind text other → IsOfText kind options text written → IsOfText kind options other written
 written_same History options text other written same is = is ∙ ap (λ (r : Reading Recorded). recorded_curve options.form (short_reading r)) (sym same)
 written_same Pauses options text other written same is = subst (λ (r : Reading (List Letter)). IsOfLog options r written) (sym same) is
-
--- the line of the first bad line is what is written of a text
-pub bad_written : (kind : TextKind) (options : CurveOptions) (text : Text) (line : ℕ) → IsBadLine kind text line → IsOfText kind options text (line_text (bad_line_text line))
-bad_written History options text line bad = sym (ap (λ (r : Reading Recorded). recorded_curve options.form (short_reading r)) bad)
-bad_written Pauses options text line bad = subst (λ (r : Reading (List Letter)). IsOfLog options r (line_text (bad_line_text line))) (sym bad) refl
-
--- and line 0 if a history has too many units
-long_written : (options : CurveOptions) (text : Text) → IsLongHistory text → IsOfText History options text (line_text (bad_line_text 0))
-long_written options text long =
-    let test : nat_lt (length (letters_of_entries long.0.entries)) LIFE ≡ false = grind (arith, nat_tests, long.2) in
-    sym (ap (λ (r : Reading Recorded). recorded_curve options.form (short_reading r)) long.1 ∙ ap (λ (b : Bool). recorded_curve options.form (if b then Means long.0 else BadLine 0)) test)
-
-pub long_drawn : (kind : TextKind) (options : CurveOptions) (text : Text) → IsDrawnText kind options text Drawing.TooLong → IsOfText kind options text (line_text (bad_line_text 0)) × EndsSo kind options.promises text HistoryTooLong
-long_drawn History options text long = (long_written options text long, long)
-long_drawn Pauses options text long = absurd long
 
 -- a text for whose curve memory is taken is not too long
 short_text : (text : Text) {R : Type 0} (read : Text → R) (refused found : R) → ((text : Text) → 2147483648 < length text → read text ≡ refused) → (refused ≡ found → ⊥) → read text ≡ found → length text ≤ 2147483648

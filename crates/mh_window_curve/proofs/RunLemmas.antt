@@ -14,7 +14,8 @@ use Rattle.mh_script.specs.{Run.{IsTranscript, MayEndSo}, Tasks.{IsDone, IsWritt
 use Rattle.mh_window_curve.specs.declared.end.CurveEnd.{CurveEnd}
 use Rattle.mh_window_curve.specs.declared.end.CurveEnd.TheVariants.{Drawn, ScriptRefused}
 use Rattle.mh_window_curve.specs.declared.promises.Broken.{Broken}
-use Rattle.mh_window_curve.specs.Runs.{IsCurveOutput, IsDrawingRun, IsEndOf, IsFoundOfRun, IsJudgedRun, curve_run}
+use Rattle.mh_window_curve.specs.Runs.{IsCurveOutput, IsDrawingRun, IsFoundOfRun, IsJudgedRun, curve_run}
+use Rattle.mh_window_curve.specs.Auxiliary.{IsEndOf}
 use Rattle.mh_run_laws.proofs.runs.RunsByEvents.{after_more}
 use Rattle.mh_run_laws.specs.Bounds.{RunsStayWithinTheirEvents, most_letters}
 

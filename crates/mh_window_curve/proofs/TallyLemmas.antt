@@ -11,7 +11,8 @@ use Rattle.mh_history.specs.Beginnings.{TakesEntry, line_as_measured, after_head
 use Rattle.mh_history.proofs.LineLemmas.{Walked, walked_more}
 use Rattle.mh_window_curve.specs.{declared.tally.Tally.Tally, Drawings.{IsJudgedText, TakesToDraw}, Promises.IsJudged}
 use Rattle.mh_window_curve.specs.{declared.kind.TextKind.TheVariants.History, declared.promises.Broken.Broken}
-use Rattle.mh_window_curve.specs.Histories.{Extends, IsShortTrace, IsLongHistory, history_curve, recorded_curve, short_reading, traced_curve, IsTallyOf, IsTraceIf, IsTraceOf, greatest_spent, letters_of_entries, letters_of_entry}
+use Rattle.mh_window_curve.specs.Histories.{Extends, IsShortTrace, IsLongHistory, history_curve, recorded_curve, short_reading, traced_curve, greatest_spent, letters_of_entries, letters_of_entry}
+use Rattle.mh_window_curve.specs.Auxiliary.{IsTallyOf, IsTraceIf, IsTraceOf}
 use Rattle.mh_orders.specs.declared.{curve.CurveForm.CurveForm, promises.Promises.Promises}
 
 pub letters_of-more : (entries : List Measured) (measured : Measured) → letters_of_entries (entries ++ measured ∷ []) ≡ letters_of_entries entries ++ letters_of_entry measured

@@ -1,25 +1,18 @@
 -- What is drawn of texts that are no scripts: histories of version 2 and logs of pauses.
-use Rattle.std.specs.{Prelude.{◌≡◌, ◌⊎◌, ℕ, List}, String.string_bytes}
+use Rattle.std.specs.Prelude.{◌≡◌, ◌⊎◌, List}
 use Rattle.mh_history.specs.Beginnings.{BeginsWithMeasured}
-use Rattle.mh_model.specs.{Bytes.Text, HistoryTexts.{Recorded, recorded_reading}, Script.{BadLine, Means}, Trace.Letter}
+use Rattle.mh_model.specs.{Bytes.Text, HistoryTexts.{Recorded, recorded_reading}, Script.Means, Trace.Letter}
 use Rattle.mh_orders.specs.declared.{curve.CurveOptions.CurveOptions, promises.Promises.Promises}
 use Rattle.mh_window_pauses.specs.Logs.{BeginsWithLine, pause_reading}
-use Rattle.mh_window_curve.specs.declared.drawing.Drawing.{Drawing}
-use Rattle.mh_window_curve.specs.declared.drawing.Drawing.TheVariants.{Curve, Refused, TooLong}
 use Rattle.mh_window_curve.specs.{declared.kind.TextKind.TextKind, declared.kind.TextKind.TheVariants.{History, Pauses}}
 use Rattle.mh_window_curve.specs.declared.promises.Broken.{Broken}
-use Rattle.mh_window_curve.specs.Histories.{IsLongHistory, history_curve, letters_of_entries, short_reading}
-use Rattle.mh_window_curve.specs.{PauseTexts.IsOfLog, Promises.IsJudged}
+use Rattle.mh_window_curve.specs.{Histories.{history_curve, letters_of_entries, short_reading}, PauseTexts.IsOfLog}
+use Rattle.mh_window_curve.specs.Promises.{IsJudged}
 
 -- the text has these units
 abbrev pub HasLetters : TextKind → Text → List Letter → Type 0
 HasLetters History text letters = (recorded : Recorded) × (short_reading (recorded_reading text) ≡ Means recorded) × (letters ≡ letters_of_entries recorded.entries)
 HasLetters Pauses text letters = pause_reading text ≡ Means letters
-
--- the text has this first bad line. That a history has too many units is another matter
-abbrev pub IsBadLine : TextKind → Text → ℕ → Type 0
-IsBadLine History text line = recorded_reading text ≡ BadLine line
-IsBadLine Pauses text line = pause_reading text ≡ BadLine line
 
 -- What is written of a text of this kind: its curve, or its first bad line
 abbrev pub IsOfText : TextKind → CurveOptions → Text → Text → Type 0
@@ -34,10 +27,3 @@ TakesToDraw Pauses text = BeginsWithLine text ⊎ ((letters : List Letter) × (p
 -- what its units break of promises
 abbrev pub IsJudgedText : TextKind → Promises → Text → Broken → Type 0
 IsJudgedText kind promises text broken = (letters : List Letter) × HasLetters kind text letters × IsJudged promises letters broken
-
--- what is drawn of a text, before it is written
-abbrev pub IsDrawnText : TextKind → CurveOptions → Text → Drawing → Type 0
-IsDrawnText kind options text (Curve written broken) = IsJudgedText kind options.promises text broken × IsOfText kind options text (string_bytes written)
-IsDrawnText kind options text (Refused line) = IsBadLine kind text line
-IsDrawnText History options text TooLong = IsLongHistory text
-IsDrawnText Pauses options text TooLong = ⊥

@@ -1,11 +1,11 @@
 -- The curves of histories, as texts.
-use Rattle.std.specs.Prelude.{◌≡◌, ◌<◌, ◌≤◌, ℕ, nat_lt, Bool, true, false, max, if◌then◌else◌, None, List, [], ◌∷◌, ◌++◌, length, replicate, flat_map}
+use Rattle.std.specs.Prelude.{◌≡◌, ◌<◌, ◌≤◌, ℕ, nat_lt, max, if◌then◌else◌, None, List, [], ◌∷◌, ◌++◌, length, replicate, flat_map}
 use Rattle.mh_model.specs.{declared.birth.TheConstants.LIFE, declared.config.Config.Config}
 use Rattle.mh_model.specs.{declared.history.Measured.Measured, Bytes.{Text, line_text}}
 use Rattle.mh_model.specs.{HistoryTexts.{Recorded, recorded_reading}, Replies.bad_line_text}
 use Rattle.mh_model.specs.{Script.{Reading, BadLine, Means}, Trace.{Letter, M, C, TraceState}}
 use Rattle.mh_orders.specs.declared.curve.CurveForm.{CurveForm}
-use Rattle.mh_window_curve.specs.{declared.tally.Tally.Tally, Points.{trace_counts, points_of}, Texts.curve_text}
+use Rattle.mh_window_curve.specs.{Points.{trace_counts, points_of}, Texts.curve_text}
 
 -- Traces -----------------------------------------------------------------------------------------
 
@@ -47,20 +47,6 @@ abbrev pub history_curve : CurveForm → Text → Text
 history_curve form text = recorded_curve form (short_reading (recorded_reading text))
 
 -- Drawings ---------------------------------------------------------------------------------------
-
--- the trace of some entries
-pub record IsTraceOf (entries : List Measured) (trace : TraceState) : Type 0 where
-  pub letters : trace.letters ≡ letters_of_entries entries
-  pub greatest : trace.greatest ≡ greatest_spent entries
-
--- a trace is that of some entries as long as it has fewer than 2 ^ 62 units
-abbrev pub IsTraceIf : Bool → List Measured → TraceState → Type 0
-IsTraceIf true entries trace = IsTraceOf entries trace
-IsTraceIf false entries trace = LIFE ≤ length (letters_of_entries entries)
-
--- the trace of a tally is that of some entries as long as it has fewer than 2 ^ 62 units
-abbrev pub IsTallyOf : List Measured → Tally → Type 0
-IsTallyOf entries tally = IsTraceIf tally.is_short entries tally.trace.trace
 
 -- a trace is short, and has no more quanta than letters
 pub record IsShortTrace (trace : TraceState) : Type 0 where

@@ -6,3 +6,4 @@ pub mod Places
 pub mod PauseTexts
 pub mod Drawings
 pub mod Runs
+pub mod Auxiliary

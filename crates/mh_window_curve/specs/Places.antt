@@ -1,5 +1,5 @@
 -- The windows of a trace from its longest pause on, each with the place where it has its least.
-use Rattle.std.specs.Prelude.{◌≡◌, ℕ, ◌==◌, max, if◌then◌else◌, Option, List, [], ◌∷◌, ◌++◌, map, option_map}
+use Rattle.std.specs.Prelude.{◌≡◌, ℕ, ◌==◌, max, if◌then◌else◌, Option, List, [], ◌∷◌, map, option_map}
 use Rattle.mh_model.specs.Trace.{Letter, floor}
 use Rattle.mh_orders.specs.declared.promises.Round.{Round}
 use Rattle.mh_windows.specs.{Always.GoToTheEnd, Lowest.IsLowest, declared.always.WindowLeast.WindowLeast}
@@ -30,12 +30,3 @@ drawn_point round point = record { window = point.window; least = point.least; f
 
 abbrev pub drawn_points : Option Round → List WindowLeast → List CurvePoint
 drawn_points round points = map (drawn_point round) points
-
--- a point was added, with the place where its window has its least
-pub record AddsPlace (letters : List Letter) (window : ℕ) (points points' : List WindowLeast) (places places' : List ℕ) : Type 0 where
-  pub point : WindowLeast
-  pub place : ℕ
-  pub window_is : point.window ≡ window
-  pub lowest : IsLowest letters window point.least place
-  pub added : points' ≡ points ++ point ∷ []
-  pub placed : places' ≡ places ++ place ∷ []

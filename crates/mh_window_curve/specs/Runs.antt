@@ -38,12 +38,6 @@ IsJudgedRun promises config events broken = IsJudged promises (machine_after (fi
 abbrev pub IsFoundOfRun : Promises → Config → List Event → Option Broken → Type 0
 IsFoundOfRun promises config events found = IsSomeAnd found (IsJudgedRun promises config events)
 
--- the end of a run whose curve was drawn, or of a script that was refused
-abbrev pub IsEndOf : CurveEnd → End → Type 0
-IsEndOf (Drawn broken) end = end ≡ End.Done
-IsEndOf (ScriptRefused refusal) end = end ≡ End.Refused refusal
-IsEndOf other end = ⊥
-
 -- how the curve of a run of a text may end. A curve that was drawn has what the run breaks of promises
 abbrev pub MayEndDrawn : CurveOptions → Rules → Text → Result CurveEnd ScriptFault → Type 0
 MayEndDrawn options rules text (Ok (Drawn broken)) = MayEndSo text (Ok End.Done) × LeavesForm (λ config events. IsJudgedRun options.promises config events broken) rules text (Ok End.Done)

@@ -1,7 +1,8 @@
 //! What is drawn of the texts of histories and of logs of pauses. It is found before anything is written, so `text` has
 //! only to write it.
 ghost use Rattle.std.specs.{Prelude.{◌≡◌, IfOk, OnErr}, String.string_bytes};
-ghost use Rattle.mh_window_curve.specs.{Histories.{IsShortTrace, traced_curve}, Drawings.{IsDrawnText, TakesToDraw}};
+ghost use Rattle.mh_window_curve.specs.{Histories.{IsShortTrace, traced_curve}, Auxiliary.IsDrawnText};
+ghost use Rattle.mh_window_curve.specs.Drawings.{TakesToDraw};
 ghost use Rattle.mh_window_curve.specs.declared.kind.TextKind.TheVariants as kind;
 
 use crate::form::curve_text;

@@ -2,7 +2,8 @@
 //!
 //! Each shorter window has no unit of the mutator in some place, and none of these says more.
 ghost use Rattle.std.specs.Prelude.{◌≡◌, ◌<◌, ◌≤◌, [], length, IfOk, OnOk};
-ghost use Rattle.mh_window_curve.specs.Places.{AddsPlace, ArePlaced, GoOn, drawn_points, floor_by, windows_of_pauses};
+ghost use Rattle.mh_window_curve.specs.Auxiliary.{AddsPlace};
+ghost use Rattle.mh_window_curve.specs.Places.{ArePlaced, GoOn, drawn_points, floor_by, windows_of_pauses};
 ghost use Rattle.mh_model.specs.declared.birth.TheConstants.{LIFE};
 
 use crate::point::CurvePoint;

@@ -5,8 +5,8 @@
 //! than 2 ^ 62 units by a law, so no script is too long for its curve. What is promised of all windows is judged once
 //! the curve is written.
 ghost use Rattle.std.specs.{Prelude.{◌≡◌, ◌<◌, ◌≤◌, length, IfOk, IfSome, IsSome}, String.string_bytes};
-ghost use Rattle.mh_window_curve.specs.Points.{trace_counts};
-ghost use Rattle.mh_window_curve.specs.Runs.{IsDrawingRun, IsEndOf, IsFoundOfRun, IsJudgedRun, curve_run};
+ghost use Rattle.mh_window_curve.specs.{Points.trace_counts, Runs.{IsDrawingRun, IsFoundOfRun, IsJudgedRun, curve_run}};
+ghost use Rattle.mh_window_curve.specs.Auxiliary.{IsEndOf};
 ghost use Rattle.mh_model.specs.{Limits.most_entries, Machine.{first_machine, machine_after}};
 
 use crate::end::CurveEnd;

@@ -4,7 +4,7 @@
 //! collector. No entry is kept. From 2 ^ 62 units on no more are counted, but lines are still read, so that a bad one
 //! is found.
 ghost use Rattle.std.specs.Prelude.{◌≡◌, ◌+◌, ◌<◌, ◌↔◌, List, ◌∷◌, ◌++◌, [], length, IsTrue, IfOk, IfErr, OnOk, IsErrOf};
-ghost use Rattle.mh_window_curve.specs.Histories.{Extends, IsShortTrace, IsTallyOf};
+ghost use Rattle.mh_window_curve.specs.{Histories.{Extends, IsShortTrace}, Auxiliary.IsTallyOf};
 ghost use Rattle.mh_history.specs.Beginnings.{HasEntry, entries_left, line_as_measured};
 ghost use Rattle.mh_model.specs.{declared.birth.TheConstants.LIFE, declared.history.Measured.Measured, Script.Means};
 ghost use Rattle.mh_text.specs.TextErrors.{Refuses};

@@ -9,7 +9,7 @@
 //!
 //! Nothing is replayed: it is there for other collectors, whose quanta and phases are their own.
 ghost use Rattle.std.specs.Prelude.{◌≡◌};
-ghost use Rattle.mh_window_curve.specs.{Drawings.IsBadLine, Runs.{EndsSo, IsDrawing, IsTextOutput}};
+ghost use Rattle.mh_window_curve.specs.{Auxiliary.IsBadLine, Runs.{EndsSo, IsDrawing, IsTextOutput}};
 
 use crate::drawing::{Drawing, drawn};
 use crate::end::CurveEnd;

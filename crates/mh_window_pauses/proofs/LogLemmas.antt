@@ -8,8 +8,8 @@ use Rattle.mh_history.proofs.LineLemmas.{Walked, walked_more}
 use Rattle.mh_report.specs.{declared.segment.Unit.Unit, Segments.letter_of}
 use Rattle.mh_text.specs.Pieces.{Lines, lines_from}
 use Rattle.mh_window_pauses.specs.{declared.line.PauseLine.PauseLine, declared.line.PauseLine.TheVariants.{Blank, Run}}
-use Rattle.mh_window_pauses.specs.declared.log.Traced.{Traced}
-use Rattle.mh_window_pauses.specs.Logs.{IsShort, IsTraceIf, IsTraceOf, bounded, letters_of_line, letters_of_lines, line_as_pause, pause_reading}
+use Rattle.mh_window_pauses.specs.{declared.log.Traced.Traced, Auxiliary.{IsShort, IsTraceIf, IsTraceOf}}
+use Rattle.mh_window_pauses.specs.Logs.{bounded, letters_of_line, letters_of_lines, line_as_pause, pause_reading}
 
 letters_more : (lines : List PauseLine) (line : PauseLine) → letters_of_lines (lines ++ line ∷ []) ≡ letters_of_lines lines ++ letters_of_line line
 letters_more [] line = append-nil (letters_of_line line)

@@ -1,12 +1,11 @@
 -- Logs of pauses: how long the mutator and the collector ran in turn, in any unit.
-use Rattle.std.specs.Prelude.{◌≡◌, ◌==◌, ◌<◌, ◌≤◌, nat_lt, Bool, true, false, if◌then◌else◌, Option, Some, None, option_map, List, [], ◌∷◌, ◌++◌, length, replicate, codes}
+use Rattle.std.specs.Prelude.{◌==◌, ◌≤◌, nat_lt, if◌then◌else◌, Option, Some, None, option_map, List, [], ◌∷◌, ◌++◌, length, replicate, codes}
 use Rattle.mh_model.specs.{declared.birth.TheConstants.LIFE, Bytes.{Text, is_text, number, words}}
-use Rattle.mh_model.specs.{Script.{Reading, BadLine, Means}, Trace.{Letter, TraceState}}
+use Rattle.mh_model.specs.{Script.{Reading, BadLine, Means}, Trace.Letter}
 use Rattle.mh_history.specs.Beginnings.{HasEntry, entries_left}
 use Rattle.mh_report.specs.{declared.segment.Unit.TheVariants.{Mutator, Collector}, Segments.letter_of}
 use Rattle.mh_text.specs.Pieces.{lines_from}
-use Rattle.mh_window_pauses.specs.declared.{line.PauseLine.PauseLine, line.PauseLine.TheVariants.{Blank, Run}}
-use Rattle.mh_window_pauses.specs.declared.log.Traced.{Traced}
+use Rattle.mh_window_pauses.specs.declared.line.PauseLine.{PauseLine, TheVariants.{Blank, Run}}
 
 -- Lines ------------------------------------------------------------------------------------------
 
@@ -45,18 +44,3 @@ pause_reading (byte ∷ text) = if nat_lt 2147483648 (length (byte ∷ text)) th
 pub record BeginsWithLine (text : Text) : Type 0 where
   pub short : length text ≤ 2147483648
   pub has : HasEntry line_as_pause (lines_from 1 text)
-
--- Traces -----------------------------------------------------------------------------------------
-
--- a trace is short, and has no more quanta than letters
-pub record IsShort (trace : TraceState) : Type 0 where
-  pub short : length trace.letters < LIFE
-  pub few : trace.quanta ≤ length trace.letters
-
--- the trace of some lines, which is kept as long as it is short
-abbrev pub IsTraceIf : Bool → List PauseLine → TraceState → Type 0
-IsTraceIf true lines trace = trace.letters ≡ letters_of_lines lines
-IsTraceIf false lines trace = LIFE ≤ length (letters_of_lines lines)
-
-abbrev pub IsTraceOf : List PauseLine → Traced → Type 0
-IsTraceOf lines traced = IsTraceIf traced.is_short lines traced.trace.trace

@@ -6,7 +6,8 @@ ghost use Rattle.std.specs.Prelude.{◌≡◌, ◌+◌, ◌<◌, ◌↔◌, List
 ghost use Rattle.mh_history.specs.Beginnings.{HasEntry, entries_left};
 ghost use Rattle.mh_model.specs.{declared.birth.TheConstants.LIFE, Script.{BadLine, Means}};
 ghost use Rattle.mh_window_pauses.specs.declared.line.PauseLine.{PauseLine};
-ghost use Rattle.mh_window_pauses.specs.Logs.{BeginsWithLine, IsShort, IsTraceOf, line_as_pause, pause_reading};
+ghost use Rattle.mh_window_pauses.specs.Logs.{BeginsWithLine, line_as_pause, pause_reading};
+ghost use Rattle.mh_window_pauses.specs.Auxiliary.{IsShort, IsTraceOf};
 ghost use Rattle.mh_report.specs.Segments.{letter_of};
 ghost use Rattle.mh_text.specs.TextErrors.{Refuses};
 

@@ -1,5 +1,5 @@
 -- The least of few windows says what each from one on has.
-use Rattle.std.proofs.Common.{◌≡◌, ◌∙◌, ℕ, suc, ◌+◌, ◌-◌, ◌*◌, ◌<◌, ◌≤◌, nat_lt, Bool, true, false, Some, List, [], ◌∷◌, drop, get_or, length, ap, sym, refl, arith}
+use Rattle.std.proofs.Common.{◌≡◌, ◌∙◌, ℕ, suc, ◌+◌, ◌-◌, ◌*◌, ◌<◌, ◌≤◌, nat_lt, Bool, true, false, Some, List, [], ◌∷◌, drop, get_or, length, ap, refl, arith}
 use Rattle.std.proofs.{lemmas.Bool.Decides.nat_tests, lemmas.List.{drop_all, drop_more}, lemmas.Nat.mul-le}
 use Rattle.std.proofs.Math.Nat.{mod-add-div}
 use Rattle.mh_model.specs.Trace.{Letter, least_mutator}
@@ -28,8 +28,7 @@ kept share units long x least within more some = by (nat_lt (least * 10000) (sha
       let above : least * 10000 < share * x = grind (arith, nat_tests) in
       let higher : (least * 10000 + 1) * long ≤ share * x * long = mul-le (least * 10000 + 1) long (share * x) long (omega (arith, above)) (omega arith) in
       let first : share * long * x ≤ units * 10000 * x = mul-le (share * long) x (units * 10000) x within (omega arith) in
-      let then_more : units * x * 10000 ≤ least * long * 10000 = mul-le (units * x) 10000 (least * long) 10000 more (omega arith) in
-      absurd (omega (arith, higher, first, then_more, some))
+      grind (arith, mul-le)
 
 -- there is no share of a window of no length
 none_of : (long : ℕ) → long ≡ 0 → share_of 0 long ≡ 0
@@ -50,25 +49,11 @@ module _ (letters : List Letter) where
 
     by : (b : Bool) → nat_lt 0 long ≡ b → share_until point next * x ≤ least * 10000
     by true test = let some : 0 < long = grind (arith, nat_tests) in kept (share_until point next) point.least long x least (share_within point.least long) more some
-    by false test =
-        let none : long ≡ 0 = grind (arith, nat_tests) in
-        let slow = grows.slowly letters point.window next.window point.least next.least less one other in
-        let up = grows.never_falls letters point.window next.window point.least next.least less one other in
-        let at = (least_at letters point.window point.least one).at in
-        let few = units_few letters at.0 point.window in
-        let nothing : point.least ≡ 0 = omega (arith, none, slow, up, few, at.2) in
-        let same : share_until point next ≡ share_of 0 long = ap (λ n. share_of n long) nothing in
-        no_share (share_until point next) x least (same ∙ none_of long none)
+    by false test = grind (arith, long, nat_tests, grows, least_at, units_few, no_share, none_of)
 
   from_first : (points : List WindowLeast) (point : WindowLeast) (rest : List WindowLeast) → points ≡ point ∷ rest → GoToTheEnd letters points → (x least : ℕ) → point.window ≤ x → least_mutator x letters ≡ Some least → share_from points * x ≤ least * 10000
   from_first [] point rest same go x least above is = absurd go
-  from_first (first ∷ []) point rest same go x least above is =
-      let one : first ≡ point = cc in
-      let window = ap (λ (p : WindowLeast). p.window) one in
-      let whole : x ≡ first.window = omega (arith, no_longer letters x least is, above, go.1, window) in
-      let units : Some least ≡ Some first.least = sym is ∙ ap (λ w. least_mutator w letters) whole ∙ go.0 in
-      let least_is : least ≡ first.least = cc in
-      rw (whole, least_is) (share_within first.least first.window)
+  from_first (first ∷ []) point rest same go x least above is = grind (arith, no_longer, share_within)
   from_first (first ∷ next ∷ points) point rest same go x least above is =
       let one : first ≡ point = cc in
       let window = ap (λ (p : WindowLeast). p.window) one in
@@ -135,6 +120,4 @@ module _ (letters : List Letter) (point next : WindowLeast) (rest : List WindowL
   least_more = grows.never_falls letters point.window next.window point.least next.least go.1 go.0 next_least
 
   pub least_fits : next.least - point.least ≤ next.window
-  least_fits =
-      let at = (least_at letters next.window next.least next_least).at in
-      omega (arith, units_few letters at.0 next.window, at.2)
+  least_fits = grind (arith, least_at, next_least, units_few)

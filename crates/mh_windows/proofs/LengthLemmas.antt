@@ -65,9 +65,7 @@ module _ (letters : List Letter) (old new : CountState) (none : old.here ≡ 0) 
   pauses_counted pauses first last = omega (arith, first, last, goes.pauses [], ap length whole)
 
   pub within_counted : (count bound : ℕ) → old.tally.within ≡ 0 → old.bound ≡ bound → count ≡ new.tally.within + within bound (pause_of new.here) → count ≡ within bound (pauses_of letters)
-  within_counted count bound first is last =
-      let same = ap (λ b. within b (pause_of new.here)) (goes.bound ∙ is) in
-      omega (arith, first, last, same, goes.within [], ap (within old.bound) whole) ∙ ap (λ b. within b (pauses_of letters)) is
+  within_counted count bound first is last = grind (arith, whole)
 
 -- In turn ----------------------------------------------------------------------------------------
 
@@ -87,9 +85,7 @@ turns_of letters = turns_after 0 0 letters
 
 -- a pause has a unit
 above_nothing : (here : ℕ) (lengths : List ℕ) → within 0 (suc here ∷ lengths) ≡ within 0 lengths
-above_nothing here lengths =
-    let test : nat_le (suc here) 0 ≡ false = grind (arith, nat_tests) in
-    within-cons 0 (suc here) lengths ∙ ap (λ b. cond b 1 0 + within 0 lengths) test ∙ omega arith
+above_nothing here lengths = grind (arith, nat_tests, within-cons, cond)
 
 within_nothing : (here : ℕ) (letters : List Letter) → within 0 (pauses_after here letters) ≡ 0
 within_nothing zero [] = refl
@@ -159,8 +155,7 @@ length_or_same bound (units ∷ lengths) = by (units == suc bound) refl (length_
 pub covers_less : (part bound : ℕ) (lengths : List ℕ) → nat_le (part * length lengths) (100 * within bound lengths) ≡ false → (fewer : ℕ) → fewer < bound + 1 → 100 * within fewer lengths < part * length lengths
 covers_less part bound lengths test fewer less =
     let more = within_more fewer bound lengths (omega (arith, less)) in
-    let short : 100 * within bound lengths < part * length lengths = grind (arith, nat_tests) in
-    omega (arith, more, short)
+    grind (arith, nat_tests)
 
 pub percentile_found : (part : ℕ) (letters : List Letter) (units : ℕ) → 0 < part → 0 < length (pauses_of letters) → CoversPart part (pauses_of letters) units → ((fewer : ℕ) → fewer < units → 100 * within fewer (pauses_of letters) < part * length (pauses_of letters)) → IsPercentile part (pauses_of letters) units
 percentile_found part letters units some pauses covers below = record {

@@ -5,7 +5,7 @@ use Rattle.mh_model.specs.Trace.{Letter, M, C, least_mutator}
 use Rattle.mh_report.specs.{Slides.{Passing, alike, passings, passings_of}, Walk.mutator_units}
 use Rattle.mh_run_laws.specs.Windows.{before, units_in}
 use Rattle.mh_run_laws.proofs.windows.StretchLemmas.{stretches_have_least, units_between}
-use Rattle.mh_windows.specs.Lowest.{IsLowest, LowestState, first_lowest, here, slid_on, slid_over}
+use Rattle.mh_windows.specs.{Lowest.{IsLowest, LowestState, here, slid_on, slid_over}, Auxiliary.first_lowest}
 
 -- Steps alike --------------------------------------------------------------------------------------
 
@@ -43,19 +43,12 @@ step leaves enters = record { leaves = leaves; enters = enters }
 
 module _ (s : LowestState) (below : s.least ≤ s.count) where
   alike-none : (leaves enters : Letter) → s ≡ slid_alike 0 leaves enters s
-  alike-none leaves enters =
-      let same : s.count + mutator_units enters 0 - mutator_units leaves 0 ≡ s.count = omega (arith, no_units enters, no_units leaves) in
-      let test : nat_lt (s.count + mutator_units enters 0 - mutator_units leaves 0) s.least ≡ false = grind (arith, nat_tests) in
-      rw test (same_state s _ (omega arith) (sym same) refl refl (omega arith))
+  alike-none leaves enters = grind (arith, no_units, nat_tests, same_state)
 
   -- where it doesn't fall, one step and then so many find nothing
   alike-stays : (n : ℕ) (leaves enters : Letter) → (one all rest : ℕ) → one ≡ s.count + mutator_units enters 1 - mutator_units leaves 1 → all ≡ s.count + mutator_units enters (suc n) - mutator_units leaves (suc n)
       → rest ≡ one + mutator_units enters n - mutator_units leaves n → s.count ≤ one → s.count ≤ all → rest ≡ all → slid_alike n leaves enters (slid_on s (step leaves enters)) ≡ slid_alike (suc n) leaves enters s
-  alike-stays n leaves enters one all rest one_is all_is rest_is no_fall none_falls same =
-      let first : nat_lt (s.count + mutator_units enters 1 - mutator_units leaves 1) s.least ≡ false = grind (arith, nat_tests) in
-      let later : nat_lt (s.count + mutator_units enters 1 - mutator_units leaves 1 + mutator_units enters n - mutator_units leaves n) s.least ≡ false = grind (arith, nat_tests) in
-      let whole : nat_lt (s.count + mutator_units enters (suc n) - mutator_units leaves (suc n)) s.least ≡ false = grind (arith, nat_tests) in
-      rw (first, later, whole) (same_state _ _ (omega arith) (omega (arith, one_is, all_is, rest_is, same)) refl refl (omega arith))
+  alike-stays n leaves enters one all rest one_is all_is rest_is no_fall none_falls same = grind (arith, nat_tests, same_state)
 
   -- it falls as units leave it and none enter
   alike-falls : (n : ℕ) → slid_alike n M C (slid_on s (step M C)) ≡ slid_alike (suc n) M C s
@@ -89,9 +82,7 @@ module _ (s : LowestState) (below : s.least ≤ s.count) where
             (record { start = suc s.start + n; count = all; least = if nat_lt all one then all else one; at = if nat_lt all one then suc s.start + (one - all) else suc s.start; left = s.left - 1 - n })
             (record { start = s.start + suc n; count = all; least = all; at = s.start + (s.count - all); left = s.left - suc n })
         again true lower low = rw lower (same_state _ _ start refl refl (omega (arith, low, below)) (omega arith))
-        again false lower low =
-            let most : one ≤ all = grind (arith, nat_tests) in
-            rw lower (same_state _ _ start refl (omega (arith, most)) (omega (arith, low, below, most)) (omega arith))
+        again false lower low = grind (arith, one, all, nat_tests, same_state, start)
 
 pub slides_alike : (n : ℕ) (leaves enters : Letter) (s : LowestState) → s.least ≤ s.count → slid_over s (alike n leaves enters) ≡ slid_alike n leaves enters s
 slides_alike zero leaves enters s below = alike-none s below leaves enters
@@ -107,15 +98,11 @@ slides_alike (suc n) leaves enters s below =
 -- what a step alike finds, or doesn't
 pub pass_lower : (s : LowestState) (n count : ℕ) (leaves enters : Letter) → count ≡ s.count + mutator_units enters n - mutator_units leaves n → count < s.least
     → ◌≡◌ {A = LowestState} (record { start = s.start + n; count = count; least = count; at = s.start + (s.count - count); left = s.left - n }) (slid_alike n leaves enters s)
-pass_lower s n count leaves enters is low =
-    let test : nat_lt (s.count + mutator_units enters n - mutator_units leaves n) s.least ≡ true = grind (arith, nat_tests) in
-    rw test (same_state _ _ refl is is (ap (λ m. s.start + (s.count - m)) is) refl)
+pass_lower s n count leaves enters is low = grind (arith, nat_tests, same_state)
 
 pub pass_higher : (s : LowestState) (n count : ℕ) (leaves enters : Letter) → count ≡ s.count + mutator_units enters n - mutator_units leaves n → s.least ≤ count
     → ◌≡◌ {A = LowestState} (record { start = s.start + n; count = count; least = s.least; at = s.at; left = s.left - n }) (slid_alike n leaves enters s)
-pass_higher s n count leaves enters is high =
-    let test : nat_lt (s.count + mutator_units enters n - mutator_units leaves n) s.least ≡ false = grind (arith, nat_tests) in
-    rw test (same_state _ _ refl is refl refl refl)
+pass_higher s n count leaves enters is high = grind (arith, nat_tests, same_state)
 
 -- Where it is --------------------------------------------------------------------------------------
 
@@ -166,11 +153,7 @@ module _ (letters : List Letter) (window : ℕ) where
     next = omega arith
 
     counted : count ≡ units_in letters (suc s.start) window
-    counted =
-        let here = units_between letters s.start window in
-        let there = units_between letters (suc s.start) window in
-        let end : before letters (suc s.start + window) ≡ before letters (suc (s.start + window)) = ap (before letters) next in
-        omega (arith, here, there, end, before_next s.start letters leaves leaving starts, before_next (s.start + window) letters enters entering ends, stands.counts)
+    counted = grind (arith, units_between, next, before_next)
 
     room : suc s.start + window ≤ length letters
     room = let long = ap length ends in omega (arith, long, length-drop (s.start + window) letters)
@@ -178,9 +161,7 @@ module _ (letters : List Letter) (window : ℕ) where
     all : (bound : ℕ) → bound ≤ s.least → bound ≤ count → (start : ℕ) → start ≤ suc s.start → bound ≤ units_in letters start window
     all bound low here start less = last (nat_lt s.start start) refl where
       last : (b : Bool) → nat_lt s.start start ≡ b → bound ≤ units_in letters start window
-      last true test =
-          let at : start ≡ suc s.start = (let more : s.start < start = grind (arith, nat_tests) in omega (arith, more, less)) in
-          subst (λ p. bound ≤ units_in letters p window) (sym at) (omega (arith, here, counted))
+      last true test = grind (arith, nat_tests, counted)
       last false test = let no_more : start ≤ s.start = grind (arith, nat_tests) in omega (arith, low, stands.below start no_more)
 
     by : (b : Bool) → nat_lt count s.least ≡ b → Stands letters window (slid_on s (step leaves enters))
@@ -212,8 +193,7 @@ module _ (letters : List Letter) (window : ℕ) where
       (stands, omega (arith, none, length-drop (s.start + window) letters, stands.inside))
   stands_over s [] (enters ∷ entering) starts ends stands =
       let none = ap length starts in
-      let some = ap length ends in
-      absurd (omega (arith, none, some, length-drop s.start letters, length-drop (s.start + window) letters))
+      grind (arith, length-drop)
   stands_over s (leaves ∷ leaving) (enters ∷ entering) starts ends stands =
       let next : suc s.start + window ≡ suc (s.start + window) = omega arith in
       stands_over (slid_on s (step leaves enters)) leaving entering (after_next s.start letters leaves leaving starts) (ap (λ p. drop p letters) next ∙ after_next (s.start + window) letters enters entering ends)

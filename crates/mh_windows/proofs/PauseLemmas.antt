@@ -1,11 +1,12 @@
 -- What goes over a trace meets its longest pause.
-use Rattle.std.proofs.Common.{◌≡◌, ◌∙◌, ◌⊎◌, inl, inr, ℕ, zero, suc, ◌+◌, ◌-◌, ◌<◌, ◌≤◌, nat_lt, Bool, true, false, List, [], drop, length, ap, sym, refl, subst, append-nil, arith}
+use Rattle.std.proofs.Common.{◌≡◌, ◌∙◌, ◌⊎◌, inl, inr, ℕ, zero, suc, ◌+◌, ◌-◌, ◌<◌, ◌≤◌, nat_lt, Bool, true, false, List, length, ap, refl, append-nil, arith}
 use Rattle.std.proofs.{lemmas.Bool.Decides.nat_tests, lemmas.List.{length-drop, length-replicate}}
 use Rattle.mh_model.specs.Trace.{Letter, M, C}
-use Rattle.mh_report.specs.{Slides.{Passing, alike, passings, passings_of}, Walk.mutator_units}
+use Rattle.mh_report.specs.{Slides.{Passing, alike, passings_of}, Walk.mutator_units}
 use Rattle.mh_run_laws.specs.Windows.{before, units_in}
 use Rattle.mh_run_laws.proofs.windows.StretchLemmas.{units_between}
-use Rattle.mh_windows.specs.Pauses.{Goes, HasGone, IsLongest, PauseState, StandsNext, here_after, longer_of}
+use Rattle.mh_windows.specs.Pauses.{Goes, HasGone, IsLongest, PauseState, StandsNext}
+use Rattle.mh_windows.specs.Auxiliary.{here_after, longer_of}
 use Rattle.mh_windows.proofs.ShareLemmas.{enough, leave_alike, passings_long}
 
 module _ (letters : List Letter) (s : PauseState) (gone : HasGone letters s) where
@@ -16,9 +17,7 @@ module _ (letters : List Letter) (s : PauseState) (gone : HasGone letters s) whe
       let head = units_between letters start (from - start) in
       let part = units_between letters from many in
       let tail = units_between letters (from + many) (start + units - (from + many)) in
-      let to_from : before letters (start + (from - start)) ≡ before letters from = (let at : start + (from - start) ≡ from = omega (arith, low) in ap (before letters) at) in
-      let to_end : before letters (from + many + (start + units - (from + many))) ≡ before letters (start + units) = (let at : from + many + (start + units - (from + many)) ≡ start + units = omega (arith, high) in ap (before letters) at) in
-      omega (arith, whole, head, part, tail, to_from, to_end, none)
+      grind arith
 
   -- more letters of the collector
   module _ (n : ℕ) (room : s.place + n ≤ length letters) (alike_is : (i : ℕ) → i ≤ n → units_in letters s.place i ≡ 0) where
@@ -28,9 +27,7 @@ module _ (letters : List Letter) (s : PauseState) (gone : HasGone letters s) whe
         let first = units_between letters (s.place - s.here) s.here in
         let whole = units_between letters (s.place - s.here) (s.here + n) in
         let last = units_between letters s.place n in
-        let at_start : before letters (s.place - s.here + s.here) ≡ before letters s.place = ap (before letters) start in
-        let at_end : before letters (s.place - s.here + (s.here + n)) ≡ before letters (s.place + n) = (let end : s.place - s.here + (s.here + n) ≡ s.place + n = omega (arith, gone.here) in ap (before letters) end) in
-        omega (arith, first, whole, last, at_start, at_end, gone.paused, alike_is n (omega arith))
+        grind arith
 
     begins_more : (start : ℕ) → start + (s.here + n) < s.place + n → 0 < units_in letters start (s.place + n - start)
     begins_more start early =
@@ -39,26 +36,19 @@ module _ (letters : List Letter) (s : PauseState) (gone : HasGone letters s) whe
       where
         by : (b : Bool) → nat_lt 0 (units_in letters start (s.place + n - start)) ≡ b → 0 < units_in letters start (s.place - start) → 0 < units_in letters start (s.place + n - start)
         by true test some = grind (arith, nat_tests)
-        by false test some =
-            let none : units_in letters start (s.place + n - start) ≡ 0 = grind (arith, nat_tests) in
-            absurd (omega (arith, some, part_in start (s.place + n - start) start (s.place - start) (omega arith) (omega (arith, early)) none))
+        by false test some = grind (arith, nat_tests, part_in)
 
     no_longer_more : (start units : ℕ) → start + units ≤ s.place + n → s.place < start + units → units_in letters start units ≡ 0 → units ≤ s.here + n
     no_longer_more start units inside later none = by (nat_lt (start + s.here) s.place) refl where
       by : (b : Bool) → nat_lt (start + s.here) s.place ≡ b → units ≤ s.here + n
-      by true test =
-          let sooner : start + s.here < s.place = grind (arith, nat_tests) in
-          absurd (omega (arith, gone.begins start sooner, part_in start units start (s.place - start) (omega arith) (omega (arith, later)) none))
+      by true test = grind (arith, nat_tests, part_in)
       by false test = let no_sooner : s.place ≤ start + s.here = grind (arith, nat_tests) in omega (arith, no_sooner, inside)
 
     starts_more : (start : ℕ) → start + (s.here + n) < s.place + n → s.place < start + (s.here + n) → 0 < units_in letters start (s.here + n)
     starts_more start early later = by (nat_lt 0 (units_in letters start (s.here + n))) refl where
       by : (b : Bool) → nat_lt 0 (units_in letters start (s.here + n)) ≡ b → 0 < units_in letters start (s.here + n)
       by true test = grind (arith, nat_tests)
-      by false test =
-          let none : units_in letters start (s.here + n) ≡ 0 = grind (arith, nat_tests) in
-          let sooner : start + s.here < s.place = omega (arith, early) in
-          absurd (omega (arith, gone.begins start sooner, part_in start (s.here + n) start (s.place - start) (omega arith) (omega (arith, later, sooner)) none))
+      by false test = grind (arith, nat_tests, part_in)
 
   -- or of the mutator, of which there is one
   module _ (n : ℕ) (some : 0 < n) (room : s.place + n ≤ length letters) (alike_is : (i : ℕ) → i ≤ n → units_in letters s.place i ≡ i) where
@@ -109,38 +99,13 @@ module _ (letters : List Letter) (s : PauseState) (gone : HasGone letters s) whe
       by : (some late : Bool) → nat_lt 0 (units_in letters start here) ≡ some → nat_lt s.place (start + here) ≡ late → 0 < units_in letters start here
       by true late test place = grind (arith, nat_tests)
       by false true test place = let later : s.place < start + here = grind (arith, nat_tests) in starts start (omega (arith, more)) (omega (arith, early)) later
-      by false false test place =
-          let none : units_in letters start here ≡ 0 = grind (arith, nat_tests) in
-          let sooner : start + here ≤ s.place = grind (arith, nat_tests) in
-          absurd (omega (arith, more, gone.longest start here sooner none))
+      by false false test place = grind (arith, nat_tests)
 
     gone_with : HasGone letters (record { place = s.place + n; here = here; longest = longer_of s.longest (record { start = s.place + n - here; units = here }); left = s.left - n })
     gone_with = by (nat_lt s.longest.units here) refl where
       by : (b : Bool) → nat_lt s.longest.units here ≡ b → HasGone letters (record { place = s.place + n; here = here; longest = longer_of s.longest (record { start = s.place + n - here; units = here }); left = s.left - n })
-      by true test =
-          let more : s.longest.units < here = grind (arith, nat_tests) in
-          rw test (record {
-            inside = room;
-            here = few;
-            paused = paused;
-            begins = begins;
-            ended = omega (arith, few);
-            none = paused;
-            longest = λ start units inside none. elim (all_bound start units inside none) [ inl old ↦ omega (arith, old, more) | inr new ↦ new ];
-            first = first_new more;
-          })
-      by false test =
-          let no_more : here ≤ s.longest.units = grind (arith, nat_tests) in
-          rw test (record {
-            inside = room;
-            here = few;
-            paused = paused;
-            begins = begins;
-            ended = omega (arith, gone.ended);
-            none = gone.none;
-            longest = λ start units inside none. elim (all_bound start units inside none) [ inl old ↦ old | inr new ↦ omega (arith, new, no_more) ];
-            first = gone.first;
-          })
+      by true test = grind (arith, nat_tests, all_bound, inl, inr, first_new)
+      by false test = grind (arith, nat_tests, all_bound, inl, inr)
 
 -- where it goes over letters alike
 abbrev pub gone_on : PauseState → ℕ → Letter → PauseState
@@ -167,12 +132,7 @@ module _ (letters : List Letter) (s : PauseState) (n : ℕ) (leaves enters : Let
         (begins_more letters s gone many (omega (arith, is, room)) (λ i less. next_is i (omega (arith, less, is))))
         (no_longer_more letters s gone many (omega (arith, is, room)) (λ i less. next_is i (omega (arith, less, is))))
         (λ start some. starts_more letters s gone many (omega (arith, is, room)) (λ i less. next_is i (omega (arith, less, is))) start)
-    by M zero is next_is room =
-        let same : s.place + 0 ≡ s.place = omega arith in
-        gone_with letters s gone 0 s.here (omega (arith, gone.inside)) (omega (arith, gone.here)) (ap (λ p. units_in letters (p - s.here) s.here) same ∙ gone.paused)
-        (λ start early. subst (λ p. 0 < units_in letters start (p - start)) (sym same) (gone.begins start (omega (arith, early))))
-        (λ start units inside later none. absurd (omega (arith, inside, later)))
-        (λ start some early later. absurd (omega (arith, early, later)))
+    by M zero is next_is room = grind (arith, gone_with)
     by M (suc more) is next_is room =
         gone_with letters s gone (suc more) 0 (omega (arith, is, room)) (omega arith) refl
         (begins_new letters s gone (suc more) (omega arith) (omega (arith, is, room)) (λ i less. next_is i (omega (arith, less, is))))
@@ -190,25 +150,7 @@ goes_alike s n leaves enters =
 
 -- from the start to the end
 pub goes_first : (letters : List Letter) (left : ℕ) → HasGone letters (record { place = 0; here = 0; longest = record { start = 0; units = 0 }; left = left })
-goes_first letters left = record {
-  inside = omega arith;
-  here = omega arith;
-  paused = refl;
-  begins = λ start early. absurd (omega (arith, early));
-  ended = omega arith;
-  none = refl;
-  longest = λ start units inside none. omega (arith, inside);
-  first = λ start early. absurd (omega (arith, early));
-}
+goes_first letters left = grind arith
 
 pub longest_found : (letters : List Letter) (old new : PauseState) → old.place ≡ 0 → HasGone letters old → Goes old (passings_of 0 letters) new → IsLongest letters new.longest
-longest_found letters old new start gone goes =
-    let next : StandsNext letters old (passings_of 0 letters) = ([], ap (λ n. passings (drop n letters) (drop n letters)) start ∙ sym (append-nil (passings_of 0 letters))) in
-    let all = goes.goes letters next gone in
-    let end : new.place ≡ length letters = omega (arith, goes.place, start, passings_long letters letters (omega arith)) in
-    record {
-      inside = omega (arith, all.ended, end);
-      none = all.none;
-      longest = λ from units inside none. all.longest from units (omega (arith, inside, end)) none;
-      first = all.first;
-    }
+longest_found letters old new start gone goes = grind (arith, append-nil, passings_long)

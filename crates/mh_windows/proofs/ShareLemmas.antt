@@ -110,9 +110,7 @@ module _ (s : ShareState) (few : s.part ≤ 100) (n : ℕ) (leaves enters : Lett
           let split : n ≡ i + d = omega (arith, less) in
           let parts : s.part * n ≡ s.part * (i + d) = ap (λ m. s.part * m) split in
           omega (arith, at, last, split, parts, mul-le s.part d 100 d few (omega arith))
-      by C at last =
-          let here = found.highest s.start.place (omega arith) in
-          omega (arith, at, here, worse.of_peak, found.start, found.peak)
+      by C at last = grind arith
 
     highest : (place : ℕ) → place ≤ s.start.place + n → 100 * before letters place + s.part * peak.place ≤ 100 * peak.units + s.part * place
     highest place less = by (nat_lt s.start.place place) refl where
@@ -122,9 +120,7 @@ module _ (s : ShareState) (few : s.part ≤ 100) (n : ℕ) (leaves enters : Lett
           let i : ℕ = place - s.start.place in
           let at : s.start.place + i ≡ place = omega (arith, later) in
           subst (λ p. 100 * before letters p + s.part * peak.place ≤ 100 * peak.units + s.part * p) at (start_falls i (omega (arith, less, later)))
-      by false test =
-          let sooner : place ≤ s.start.place = grind (arith, nat_tests) in
-          omega (arith, found.highest place sooner, worse.of_peak, found.peak)
+      by false test = grind (arith, nat_tests)
 
     -- it has what it must at its end: so each has that ends at one of these
     module _ (known : (start end : ℕ) → start + from ≤ end → end ≤ s.end.place → KeepsBetween s.part letters start end) (keeps : 100 * peak.units + s.part * (s.end.place + n) ≤ 100 * (s.end.units + mutator_units enters n) + s.part * peak.place) where
@@ -177,30 +173,12 @@ module _ (s : ShareState) (few : s.part ≤ 100) (n : ℕ) (leaves enters : Lett
 
     -- or it hasn't
     short_here : 100 * (s.end.units + mutator_units enters n) + s.part * peak.place < 100 * peak.units + s.part * (s.end.place + n) → IsShort s.part from letters (record { start = peak.place; end = s.end.place + n })
-    short_here falls =
-        let long : ℕ = s.end.place + n - peak.place in
-        let split : s.end.place + n ≡ peak.place + long = omega (arith, peak_passed, found.apart) in
-        let parts : s.part * (s.end.place + n) ≡ s.part * (peak.place + long) = ap (λ m. s.part * m) split in
-        let end : before letters (s.end.place + n) ≡ before letters (peak.place + long) = ap (before letters) split in
-        record {
-          inside = room;
-          long = omega (arith, peak_passed, found.apart);
-          less = omega (arith, falls, parts, end, units_between letters peak.place long, ends n (omega arith), peak_place);
-        }
+    short_here falls = grind (arith, peak_passed, room, units_between, ends, peak_place)
 
     -- what it has found after it
     found_after : (broken : Option Stretch) → MatchOption broken ((start end : ℕ) → start + from ≤ end → end ≤ s.end.place + n → KeepsBetween s.part letters start end) (IsShort s.part from letters)
         → HasFound letters from (moved s n leaves enters peak broken)
-    found_after broken is = record {
-      start = sym (starts n (omega arith));
-      end = sym (ends n (omega arith));
-      peak = peak_place;
-      apart = omega (arith, found.apart);
-      inside = room;
-      passed = peak_passed;
-      highest = λ place less. omega (arith, highest place less, peak_place);
-      found = is;
-    }
+    found_after broken is = grind (arith, starts, ends, peak_place, room, peak_passed, highest)
 
   slides_by : (broken : Option Stretch) → ((letters : List Letter) (from : ℕ) → IsNext letters s (alike n leaves enters) → HasFound letters from s
       → MatchOption broken ((start end : ℕ) → start + from ≤ end → end ≤ s.end.place + n → KeepsBetween s.part letters start end) (IsShort s.part from letters)) → Slides s (alike n leaves enters) (moved s n leaves enters peak broken)
@@ -239,14 +217,7 @@ no_longer_than letters part from short window least long is = absurd (omega (ari
 -- the first stretch, if it is short already
 pub short_first : (letters : List Letter) (part from units : ℕ) (stretch : Stretch) → from ≤ length letters → units ≡ mutator_count (take from letters) → stretch ≡ record { start = 0; end = from } → 100 * units + part * 0 < 100 * 0 + part * from
     → IsShort part from letters stretch
-short_first letters part from units stretch room units_is is falls =
-    let none : from - 0 ≡ from = omega arith in
-    let whole : units_in letters 0 (from - 0) ≡ mutator_count (take from letters) = ap (λ n. mutator_count (take n letters)) none in
-    subst (IsShort part from letters) (sym is) (record {
-      inside = omega (arith, room);
-      long = omega arith;
-      less = rw none (omega (arith, falls, units_is));
-    })
+short_first letters part from units stretch room units_is is falls = grind (arith, room)
 
 -- or else the state that it begins with
 pub first_state : (letters : List Letter) (part from units left : ℕ) → from ≤ length letters → units ≡ mutator_count (take from letters) → 100 * 0 + part * from ≤ 100 * units + part * 0

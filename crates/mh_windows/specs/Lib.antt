@@ -5,3 +5,4 @@ pub mod Pauses
 pub mod PauseRules
 pub mod Always
 pub mod Lengths
+pub mod Auxiliary

@@ -1,7 +1,7 @@
 -- The stretch of a length with the fewest units of the mutator.
 use Rattle.std.proofs.Common.{◌∙◌, ap}
-use Rattle.std.specs.Prelude.{◌≡◌, ℕ, suc, ◌+◌, ◌-◌, ◌<◌, ◌≤◌, nat_lt, if◌then◌else◌, List, [], ◌∷◌, ◌++◌, length, take}
-use Rattle.mh_model.specs.Trace.{Letter, mutator_count}
+use Rattle.std.specs.Prelude.{◌≡◌, ℕ, suc, ◌+◌, ◌-◌, ◌<◌, ◌≤◌, nat_lt, if◌then◌else◌, List, [], ◌∷◌, ◌++◌, length}
+use Rattle.mh_model.specs.Trace.{Letter}
 use Rattle.mh_report.specs.{Slides.Passing, Walk.mutator_units}
 use Rattle.mh_run_laws.specs.Windows.{units_in}
 
@@ -30,12 +30,6 @@ slid_on lowest passing =
 abbrev pub slid_over : LowestState → List Passing → LowestState
 slid_over lowest [] = lowest
 slid_over lowest (passing ∷ passings) = slid_over (slid_on lowest passing) passings
-
--- at the first stretch
-abbrev pub first_lowest : ℕ → List Letter → LowestState
-first_lowest window letters =
-    let count : ℕ = mutator_count (take window letters) in
-    record { start = 0; count = count; least = count; at = 0; left = length letters - window }
 
 -- the stretch of this length after so many letters has so few units of the mutator, none has fewer, and each before it has more
 pub record IsLowest (letters : List Letter) (window least at : ℕ) : Type 0 where

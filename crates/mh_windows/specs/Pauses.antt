@@ -1,6 +1,6 @@
 -- Pauses: letters of the collector in a row.
-use Rattle.std.specs.Prelude.{◌≡◌, ℕ, zero, suc, ◌+◌, ◌-◌, ◌<◌, ◌≤◌, nat_lt, if◌then◌else◌, List, ◌++◌, drop, length}
-use Rattle.mh_model.specs.Trace.{Letter, M, C}
+use Rattle.std.specs.Prelude.{◌≡◌, ℕ, ◌+◌, ◌-◌, ◌<◌, ◌≤◌, List, ◌++◌, drop, length}
+use Rattle.mh_model.specs.Trace.{Letter}
 use Rattle.mh_report.specs.Slides.{Passing, passings}
 use Rattle.mh_run_laws.specs.Windows.{units_in}
 use Rattle.mh_windows.specs.declared.pause.Pause.{Pause}
@@ -29,16 +29,6 @@ pub record HasGone (letters : List Letter) (s : PauseState) : Type 0 where
   pub none : units_in letters s.longest.start s.longest.units ≡ 0
   pub longest : (start units : ℕ) → start + units ≤ s.place → units_in letters start units ≡ 0 → units ≤ s.longest.units
   pub first : (start : ℕ) → start < s.longest.start → 0 < units_in letters start s.longest.units
-
--- how many of the last letters are the collector's, after so many letters alike more
-abbrev pub here_after : Letter → ℕ → ℕ → ℕ
-here_after M zero here = here
-here_after M (suc more) here = 0
-here_after C many here = here + many
-
--- the longer of two pauses, the first of two that are as long
-abbrev pub longer_of : Pause → Pause → Pause
-longer_of pause other = if nat_lt pause.units other.units then other else pause
 
 -- what passes is what stands next
 abbrev pub StandsNext : List Letter → PauseState → List Passing → Type 0

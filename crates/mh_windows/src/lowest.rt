@@ -1,7 +1,7 @@
 //! Where in a trace the stretches of one length have the fewest units of the mutator.
 ghost use Rattle.std.specs.Prelude.{◌≡◌, ◌<◌, ◌≤◌, ◌^◌, length, IfSome, IfNone, Some};
 ghost use Rattle.mh_model.specs.{declared.birth.TheConstants.LIFE, Trace.least_mutator};
-ghost use Rattle.mh_windows.specs.Lowest.{IsLowest, LowestState, first_lowest, here, slid_over};
+ghost use Rattle.mh_windows.specs.{Lowest.{IsLowest, LowestState, here, slid_over}, Auxiliary.first_lowest};
 
 use mh_report::segment::{Segment, Unit};
 use mh_report::slide::Slider;

@@ -4,7 +4,7 @@
 ghost use Rattle.std.specs.Prelude.{◌≡◌, ◌+◌, ◌<◌, ◌^◌, length};
 ghost use Rattle.mh_model.specs.declared.birth.TheConstants.{LIFE};
 ghost use Rattle.mh_report.specs.Segments.{letter_of};
-ghost use Rattle.mh_windows.specs.Pauses.{IsLongest, here_after, longer_of};
+ghost use Rattle.mh_windows.specs.{Pauses.IsLongest, Auxiliary.{here_after, longer_of}};
 
 use mh_report::segment::Unit;
 use mh_report::slide::Slider;

@@ -9,7 +9,7 @@ use Rattle.mh_model.specs.Table.{Block, Made, MadeParts, new_block, made_in_clas
 use Rattle.mh_model.specs.Collector.{Collector, Marking, marking_of, with_shade}
 use Rattle.mh_model.specs.Mutator.{HeapState, in_roots_or_mark, new_group, mutator_step}
 use Rattle.mh_model.specs.CycleBounds.{count_at, grey_weight, IsGreySound, IsMarkedIn}
-use Rattle.mh_table_laws.specs.NewObjects.{AreMade}
+use Rattle.mh_table_laws.specs.Auxiliary.{AreMade}
 use Rattle.mh_table_laws.proofs.placing.Places.{block_at-with_block_same, block_at-with_block_other, least_place-free, block_at-with_taken_other, block-slot}
 use Rattle.mh_table_laws.proofs.objects.Parts.{children_inside}
 use Rattle.mh_table_laws.proofs.objects.MadeGroups.{length-words_of, made_parts-are, slots_in-class_of}

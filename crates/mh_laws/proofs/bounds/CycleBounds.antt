@@ -6,8 +6,7 @@ use Rattle.std.proofs.lemmas.List.Sums.{sum_by-cons}
 use Rattle.mh_model.specs.{declared.config.Config.Config, declared.cycle.Phase.Phase}
 use Rattle.mh_model.specs.{Pages.{Page, Table, page_at, block_in}, Table.Block}
 use Rattle.mh_model.specs.Collector.{Collector, Spending, Move, with_move, after_mark, cost_in, step_cost, is_moving_in, is_moving, step_in, phase_after, collector_step, is_idle, steps, quantum}
-use Rattle.mh_model.specs.Mutator.{in_roots_or_mark}
-use Rattle.mh_model.specs.CycleBounds.{IsRoomyPage, IsRoomy, class_at, slot_weight, page_weight, table_weight, in_steps, in_units, size_at, movable_words, steps_left, units_left, StageOf, IsUnderway}
+use Rattle.mh_model.specs.CycleBounds.{IsRoomyPage, IsRoomy, class_at, slot_weight, page_weight, table_weight, in_steps, in_units, size_at, steps_left, units_left, IsUnderway}
 use Rattle.mh_model.specs.Limits.{least_quantum, root_slots}
 use Rattle.mh_laws.proofs.costs.Quanta.{steps-stop, steps-go, step_cost-positive, step_cost-bounded}
 use Rattle.mh_laws.proofs.{bounds.CommandsKeepBounds.Carried, bounds.WorkLeft.collector_step-paid}
@@ -27,21 +26,6 @@ words-kept : (old new : Table Block) (number slot : ℕ) → ((size : ℕ) → c
 words-kept old new number slot kept = grind arith
 
 module _ (old new : Collector) {made : ℕ} (course : IsOnCourse made old new) (carried : Carried old new) (under : IsUnderway old) where
-  grey-outside : in_roots_or_mark old.phase ≡ false → old.grey ≡ [] → new.grey ≡ []
-  grey-outside outside none = carried.grey outside ∙ none
-
-  stage-carried : (phase : Phase) → old.phase ≡ phase → StageOf phase old → StageOf phase new
-  stage-carried phase is stage = grind arith
-
-  steps-carried : (phase : Phase) → steps_left phase new ≤ steps_left phase old
-  steps-carried phase = grind arith
-
-  movable-carried : movable_words new ≤ movable_words old
-  movable-carried = grind arith
-
-  units-carried : (phase : Phase) → units_left phase new ≤ units_left phase old
-  units-carried phase = grind arith
-
   pub carried-leaves : LeavesNoMore old new
   carried-leaves = grind arith
 
@@ -90,10 +74,7 @@ pub steps-some : (quantum : ℕ) (has_moved : Bool) (collector : Collector) → 
     → steps_left (steps quantum quantum has_moved collector).collector.phase (steps quantum quantum has_moved collector).collector + 1 ≤ steps_left collector.phase collector
 unfolding steps
 steps-some zero has_moved collector enough under runs = absurd (omega arith)
-steps-some (suc more) has_moved collector enough under runs = elim (cases_Bool (is_idle collector.phase || nat_lt (suc more) (step_cost collector has_moved))) [
-  | inl stops ↦ absurd (omega (arith, stopped_small collector has_moved (suc more) under stops runs))
-  | inr goes ↦ grind (arith, step_cost-positive, collector_step-paid, steps-spend, steps-go)
-]
+steps-some (suc more) has_moved collector enough under runs = grind (arith, cases_Bool, inl, stopped_small, under, inr, step_cost-positive, collector_step-paid, steps-spend, steps-go)
 
 -- The count of quanta ----------------------------------------------------------------------------
 

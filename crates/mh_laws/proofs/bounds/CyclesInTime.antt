@@ -12,7 +12,7 @@ use Rattle.mh_model.specs.Collector.{Collector, Spending, first_collector, is_id
 use Rattle.mh_model.specs.{Mutator.{HeapState, mutator_step}, World.says}
 use Rattle.mh_model.specs.Machine.{Machine, first_machine, quanta_left, with_collector, quantum_run, command_step, control_step, half_step, machine_after}
 use Rattle.mh_model.specs.Bound.{most_steps, most_units, most_quanta}
-use Rattle.mh_model.specs.CycleBounds.{in_steps, in_units, steps_left, units_left, StageOf, IsUnderway, IsWithin, IsInBounds}
+use Rattle.mh_model.specs.CycleBounds.{in_steps, in_units, steps_left, units_left, IsUnderway, IsWithin, IsInBounds}
 use Rattle.mh_model.specs.Limits.{least_quantum}
 use Rattle.mh_laws.specs.Bounds.{IsInTime, HasEnded, HasRunQuanta, CycleEndsWithinItsBound, left_of, QuantaLeftEndTheCycle, CollectorsStayInBounds}
 use Rattle.mh_laws.proofs.{costs.Quanta.steps-idle, commands.LeftUnchanged.{mutator_step-course, steps-keeps}}
@@ -59,18 +59,6 @@ cycle_start-started config collector bounds idle = grind (arith, cycle_start-fre
 module _ (collector : Collector) (quanta : ℕ) (is_asked : Bool) where
   abbrev recounted : Collector
   recounted = record collector { quanta = quanta; is_asked = is_asked }
-
-  stage-recounted : (phase : Phase) → StageOf phase collector → StageOf phase recounted
-  stage-recounted other stage = grind arith
-
-  under-recounted : IsUnderway collector → IsUnderway recounted
-  under-recounted under = grind arith
-
-  steps-recounted : (phase : Phase) → steps_left phase recounted ≡ steps_left phase collector
-  steps-recounted other = grind arith
-
-  units-recounted : (phase : Phase) → units_left phase recounted ≡ units_left phase collector
-  units-recounted other = grind arith
 
 with_count-started : (config : Config) (collector : Collector) → IsInBounds config collector → is_idle collector.phase ≡ false → IsStarted config collector (record collector { quanta = collector.quanta + 1 })
 with_count-started config collector bounds runs = grind arith

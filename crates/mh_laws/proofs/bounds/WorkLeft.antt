@@ -6,8 +6,8 @@ use Rattle.std.specs.List.{IsDistinct}
 use Rattle.mh_model.specs.declared.cycle.Phase.{Phase}
 use Rattle.mh_model.specs.declared.cycle.Phase.TheVariants.{Idle, Roots, Mark, Sweep, Defrag}
 use Rattle.mh_model.specs.{Pages.{Page, Table, page_number, slot_number, block_in, block_at, with_taken}, Table.Block}
-use Rattle.mh_model.specs.Collector.{Collector, Marking, Move, marking_of, with_marking, with_phase, with_shade, mark_first, first_mark_cost, next_page, next_place, flagged_page, next_move, moved_table, move_cost, with_move, after_mark, is_past, cycle_end, step_in, phase_after, collector_step, cost_in, is_idle}
-use Rattle.mh_model.specs.CycleBounds.{IsRoomy, count_at, class_at, weight, IsGreySound, in_steps, in_units, size_at, movable, movable_words, steps_left, units_left, StageOf, IsUnderway}
+use Rattle.mh_model.specs.Collector.{Collector, Marking, Move, marking_of, with_marking, with_phase, with_shade, mark_first, first_mark_cost, next_place, flagged_page, next_move, moved_table, move_cost, with_move, after_mark, is_past, cycle_end, step_in, phase_after, collector_step, cost_in, is_idle}
+use Rattle.mh_model.specs.CycleBounds.{IsRoomy, count_at, class_at, weight, IsGreySound, in_steps, in_units, size_at, movable, steps_left, units_left, StageOf, IsUnderway}
 use Rattle.mh_model.specs.Limits.{root_slots}
 use Rattle.mh_laws.proofs.commands.LeftUnchanged.{shade-keeps, mark_first-keeps, step_in-keeps}
 use Rattle.mh_laws.proofs.{moving.NextMove.{IsNextMove, next_move-is}, bounds.CommandsKeepBounds.with_shade-carries}
@@ -33,12 +33,6 @@ none_grey collector none roomy = grind arith
 pub record IsNext (place next : ℕ) : Type 0 where
   pub further : place < next
   pub position : ((page_number next ≡ page_number place) × (slot_number next ≡ suc (slot_number place))) ⊎ ((page_number next ≡ suc (page_number place)) × (slot_number next ≡ 0))
-
-next_page-next : (place : ℕ) → IsNext place (next_page place)
-next_page-next place = grind arith
-
-slot-next : (place : ℕ) → IsNext place (place + 1)
-slot-next place = grind arith
 
 next_place-next : (place : ℕ) (content : Option (Page Block)) → IsNext place (next_place place content)
 next_place-next place content = grind arith
@@ -110,9 +104,7 @@ mark-paid collector some sound stage = go collector.grey refl stage
         let pays : MarksThrough (marking_of collector) (marking_of new) (count_at collector.table place) =
         subst (λ n. MarksThrough (marking_of collector) (record { table = marked.table; grey = marked.grey; cycle = n }) (count_at collector.table place)) (cycle-mark_first (marking_of collector) (place ∷ grey)) (mark_first-pays (marking_of collector) place grey e sound) in
         let pages : length marked.table ≡ length collector.table = (mark_first-keeps 0 (marking_of collector) (place ∷ grey)).pages in
-        let steps : weight in_steps (marking_of new) + 1 ≤ weight in_steps (marking_of collector) = pays.paid in_steps in
-        let units : weight in_units (marking_of new) + (1 + count_at collector.table place) ≤ weight in_units (marking_of collector) = pays.paid in_units in
-        paid_more _ _ _ _ _ _ (after_mark new marked.grey) (omega (arith, steps, pages)) (omega (arith, units, pages)) (after_mark-paid new (omega (arith, pages)) pays.sound marked.grey refl)
+        grind (arith, paid_more, after_mark-paid)
 
 sweep-paid : (collector : Collector) → collector.phase ≡ Sweep → 0 < length collector.table → IsGreySound (marking_of collector) → StageOf Sweep collector
     → IsPaid 1 1 (steps_left Sweep collector) (units_left Sweep collector) (phase_after Sweep (step_in Sweep collector))
@@ -146,8 +138,7 @@ moved-roomy table place move roomy is =
     let at : block_at table place ≡ Some move.block = ap (option_and_then (block_in (slot_number place))) is.in_use ∙ is.there in
     let none : block_at table move.target ≡ None = ap (option_and_then (block_in (slot_number move.target))) in_use ∙ empty.empty in
     let apart : place ≢ move.target = λ same. none-some move.block (sym none ∙ ap (block_at table) (sym same) ∙ at) in
-    let there : block_at taken place ≡ Some move.block = block_at-with_taken_other table move.class_size move.target place move.block apart ∙ at in
-    grind (arith, rewritten-roomy, with_taken-roomy, roomy)
+    grind (arith, block_at-with_taken_other, rewritten-roomy, with_taken-roomy)
 
 moved-class : (table : Table Block) (place : ℕ) (move : Move) (number size : ℕ) → class_at table number ≡ Some size → class_at (moved_table table place move) number ≡ Some size
 moved-class table place move number size e = search (arith, class-with_block, class-with_taken)
@@ -162,9 +153,6 @@ FitsPage slot words used = (used ≡ 0) ⊎ ((used ≡ words) × (words * slot +
 movable-used : (pages page slot words page' slot' words' used : ℕ) → ((page' ≡ page) × (slot' ≡ suc slot)) ⊎ ((page' ≡ suc page) × (slot' ≡ 0)) → page' < pages → (page' ≡ page → words' ≡ words) → FitsPage slot words used
     → movable pages page' slot' words' + used ≤ movable pages page slot words
 movable-used pages page slot words page' slot' words' used is inside class fits = grind (arith, mul-suc, pages)
-
-movable-fits : (pages page slot words used : ℕ) → FitsPage slot words used → used ≤ movable pages page slot words
-movable-fits pages page slot words used is = grind arith
 
 defrag_after-paid : (collector new : Collector) (used : ℕ) → new.phase ≡ Defrag → 0 < length collector.table → length new.table ≡ length collector.table → new.grey ≡ [] → IsRoomy new.table
     → size_at new.table (page_number collector.cursor) ≡ size_at collector.table (page_number collector.cursor) → FitsPage (slot_number collector.cursor) (size_at collector.table (page_number collector.cursor)) used
@@ -184,8 +172,7 @@ defrag_after-paid collector new used phase some pages none roomy class fits next
         let inside' : new.cursor < 64 * length new.table = not_past new.table new.cursor e in
         let page_inside : page_number new.cursor < length collector.table = omega (arith, pages, leb-false (length new.table) (page_number new.cursor) e) in
         let less = movable-used (length collector.table) (page_number place) (slot_number place) words (page_number new.cursor) (slot_number new.cursor) (size_at new.table (page_number new.cursor)) used next.position page_inside (λ same. ap (size_at new.table) same ∙ class) fits in
-        let less' : movable_words new + used ≤ movable_words collector = subst (λ n. movable n (page_number new.cursor) (slot_number new.cursor) (size_at new.table (page_number new.cursor)) + used ≤ movable_words collector) (sym pages) less in
-        grind (arith, none_grey new none roomy)
+        grind (arith, none_grey)
 
 move_fits : (table : Table Block) (place : ℕ) (move : Move) → IsRoomy table → IsNextMove table place move → FitsPage (slot_number place) (size_at table (page_number place)) move.class_size
 move_fits table place move roomy is =
@@ -193,8 +180,7 @@ move_fits table place move roomy is =
     let own = roomy.pages (page_number place) page is.in_use in
     let words : size_at table (page_number place) ≡ page.class_size = ap (λ p. unwrap_or (option_map (λ q. q.class_size) p) 0) is.in_use in
     let inside : slot_number place < length page.slots = below_length page.slots (slot_number place) move.block is.there in
-    let room : page.class_size * suc (slot_number place) ≤ page.class_size * length page.slots = mul-le-mul_left page.class_size inside in
-    inr (sym is.class ∙ sym words, rw words (omega (arith, room, own.words)))
+    grind (arith, mul-le-mul_left, inr)
 
 defrag-paid : (collector : Collector) → 0 < length collector.table → IsGreySound (marking_of collector) → StageOf Defrag collector
     → IsPaid 1 (cost_in Defrag collector true) (steps_left Defrag collector) (units_left Defrag collector) (phase_after Defrag (step_in Defrag collector))

@@ -1,12 +1,12 @@
 -- What a command answers and leaves, from its tests.
-use Rattle.std.proofs.Common.{◌≡◌, ℕ, suc, ◌+◌, ◌-◌, ◌<◌, true, false, Bool, Option, Some, None, is_none, option_map, unwrap_or, [], ◌∷◌, get_or, set, nat_le, nat_lt, refl, ap, ◌∙◌, add-one, arith}
+use Rattle.std.proofs.Common.{◌≡◌, ℕ, ◌+◌, ◌-◌, ◌<◌, true, false, Bool, Option, Some, None, is_none, option_map, unwrap_or, [], ◌∷◌, get_or, set, nat_le, nat_lt, refl, ap, ◌∙◌, add-one, arith}
 use Rattle.mh_model.specs.{declared.command.Command.Command, declared.reply.Refusal.Refusal}
 use Rattle.mh_model.specs.declared.reply.Refusal.TheVariants.{BadSlot, TooLarge, HeapFull, Ended, TooManySessions}
 use Rattle.mh_model.specs.declared.reply.Reply.{Reply}
 use Rattle.mh_model.specs.World.{Answer, most_fields, own_slot, first_refusal, is_bad, refusal, never_full, done, says, unless_refused}
 use Rattle.mh_model.specs.{Table.Made, Collector.Collector}
 use Rattle.mh_model.specs.Mutator.{HeapState, with_root, with_roots_cleared, with_session_cleared, new_group, with_born, heap_sight, heap_effect, mutator_step}
-use Rattle.mh_laws.specs.Commands.{IsBorn, CommandsAreAnswered}
+use Rattle.mh_laws.specs.{Auxiliary.IsBorn, Commands.CommandsAreAnswered}
 
 -- Tests ------------------------------------------------------------------------------------------
 
@@ -88,9 +88,7 @@ unfolding heap_effect with_session_cleared
 end-effect heap who = refl
 
 emptied-step : (c : Collector) (slot end : ℕ) → slot < end → with_roots_cleared c slot (end - slot) ≡ with_roots_cleared (with_root c slot None) (slot + 1) (end - (slot + 1))
-emptied-step c slot end below =
-    let next : end - slot ≡ suc (end - (slot + 1)) = omega arith in
-    rw (next, add-one) refl
+emptied-step c slot end below = grind (arith, add-one)
 
 pub commands-answered : CommandsAreAnswered
 commands-answered = record {

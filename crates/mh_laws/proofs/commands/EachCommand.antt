@@ -1,11 +1,11 @@
 -- What commands carry on: a relation of tables, or of collectors, that each write of one block or slot keeps.
 -- It is carried through shading, marking and barriers, and so through the twelve commands, if making an object's parts keeps it too.
 -- A file that has such a relation says what writes do to it, and takes the walk over the commands from here.
-use Rattle.std.proofs.Common.{◌≡◌, ℕ, zero, suc, Bool, true, if◌then◌else◌, Option, Some, None, option_map, unwrap_or, List, [], ◌∷◌, set, refl, arith}
+use Rattle.std.proofs.Common.{◌≡◌, ℕ, zero, suc, true, Option, Some, None, option_map, unwrap_or, List, [], ◌∷◌, set, refl, arith}
 use Rattle.mh_model.specs.{declared.command.Command.Command, World.{own_slot, refusal}}
 use Rattle.mh_model.specs.Pages.{Table, block_at, with_block}
 use Rattle.mh_model.specs.Table.{Block, Made, Position, references_at, with_reference_at, with_number_at, target_of, number_index}
-use Rattle.mh_model.specs.Collector.{Collector, Marking, shade_block, shade, mark_reference, mark_references, mark_first, marking_of, with_shade}
+use Rattle.mh_model.specs.Collector.{Collector, Marking, shade, mark_reference, mark_references, mark_first, marking_of, with_shade}
 use Rattle.mh_model.specs.Mutator.{HeapState, in_roots_or_mark, before_field, with_root, with_roots_cleared, with_session_cleared, with_reference_stored, with_number_stored, number_field, new_group, with_born, heap_sight, heap_effect, mutator_step}
 
 -- Tables -----------------------------------------------------------------------------------------
@@ -19,9 +19,6 @@ pub record IsKeptByWrites (R : Table Block → Table Block → Type 0) : Type 0 
   pub numbered : (table : Table Block) (place index number : ℕ) → R table (with_number_at table place index number)
 
 module _ (R : Table Block → Table Block → Type 0) (kept : IsKeptByWrites R) where
-  shade_block-each : (marking : Marking) (place : ℕ) (block : Option Block) → block_at marking.table place ≡ block → R marking.table (shade_block marking place block).table
-  shade_block-each marking place block at = grind arith
-
   pub shade-each : (marking : Marking) (reference : Option ℕ) → R marking.table (shade marking reference).table
   shade-each marking reference = grind arith
 
@@ -62,9 +59,6 @@ over_tables R kept = record {
 }
 
 module _ (R : Collector → Collector → Type 0) (kept : IsKeptByCommands R) where
-  barrier-each : (test : Bool) (collector : Collector) (reference : Option ℕ) → (test ≡ true → in_roots_or_mark collector.phase ≡ true) → R collector (if test then with_shade collector reference else collector)
-  barrier-each test collector reference inside = grind arith
-
   pub with_root-each : (collector : Collector) (slot : ℕ) (reference : Option ℕ) → R collector (with_root collector slot reference)
   with_root-each collector slot reference = grind arith
 

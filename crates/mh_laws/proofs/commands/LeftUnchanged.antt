@@ -13,9 +13,9 @@ use Rattle.mh_model.specs.Table.{Block, IsWithinLimits, HasSmallBlocks, number_i
 use Rattle.mh_model.specs.Collector.{Collector, first_collector, Marking, shade, mark_first, is_last_slot, survivor, judged_page, swept_page, swept_table, next_move, Move, with_move, marking_of, step_in, phase_after, collector_step, step_cost, is_moving, is_idle, quantum_start, Spending, steps, quantum}
 use Rattle.mh_model.specs.Mutator.{HeapState, heap_sight, heap_effect, mutator_step}
 use Rattle.mh_model.specs.Machine.{Machine, first_machine, with_collector, quantum_run, command_step, machine_after}
-use Rattle.mh_model.specs.Invariant.{HasItsPages}
+use Rattle.mh_model.specs.Auxiliary.{HasItsPages}
 use Rattle.mh_table_laws.specs.Tables.{KeepsItsPages}
-use Rattle.mh_laws.specs.{Tables.{EventKeeps, TablesKeepTheirPages}, Commands.IsOnCourse}
+use Rattle.mh_laws.specs.{Auxiliary.{EventKeeps, TablesKeepTheirPages}, Commands.IsOnCourse}
 use Rattle.mh_table_laws.proofs.Lists.{none_at}
 use Rattle.mh_table_laws.proofs.tables.PageSlots.{IsSmallPage, class_of-class_size, judged_page-is, page_with-slots, page_with-small, small_page, small_block, same_limits, keeps_same, keeps_then, set-keeps, with_block-slots, with_block-limits, with_block-keeps, change-keeps, with_taken-keeps}
 use Rattle.mh_table_laws.proofs.objects.Parts.{some_parts, few_fields, small_parts}
@@ -47,10 +47,6 @@ made_group-fields table birth stamp references numbers made e = by_parts (made_p
     by_parts (Some all) is h = by_list (parts references numbers) refl all is
 
 -- Steps ------------------------------------------------------------------------------------------
-
--- what follows a step leaves the table
-table-if : (test : Bool) (collector other : Collector) → other.table ≡ collector.table → (if test then other else collector).table ≡ collector.table
-table-if test collector other e = grind arith
 
 pub table-phase_after : (phase : Phase) (collector : Collector) → (phase_after phase collector).table ≡ collector.table
 table-phase_after phase collector = grind arith

@@ -1,8 +1,8 @@
 -- Quanta: what they spend, what their steps cost, and that the count of steps never runs out.
-use Rattle.std.proofs.Common.{◌≡◌, ℕ, zero, suc, ◌-◌, ◌<◌, ◌≤◌, Bool, true, false, ◌||◌, nat_lt, inl, inr, Option, Some, List, refl, sym, ap, ◌∙◌, arith}
+use Rattle.std.proofs.Common.{◌≡◌, ℕ, zero, suc, ◌-◌, ◌<◌, ◌≤◌, Bool, true, false, ◌||◌, nat_lt, inl, inr, refl, sym, ap, ◌∙◌, arith}
 use Rattle.std.proofs.lemmas.Bool.{cases_Bool, ltb-false, or_parts, true_from_ne_false}
-use Rattle.mh_model.specs.{declared.config.Config.Config, declared.cycle.Phase.Phase, Pages.Table, Table.Block}
-use Rattle.mh_model.specs.Collector.{Collector, Move, first_mark_cost, next_move, move_cost, cost_in, step_cost, is_moving, collector_step, is_idle, with_units, quantum_start, steps, quantum}
+use Rattle.mh_model.specs.{declared.config.Config.Config, declared.cycle.Phase.Phase}
+use Rattle.mh_model.specs.Collector.{Collector, cost_in, step_cost, is_moving, collector_step, is_idle, with_units, quantum_start, steps, quantum}
 use Rattle.mh_model.specs.Limits.{least_quantum}
 use Rattle.mh_table_laws.specs.Tables.{IsSized}
 
@@ -35,12 +35,6 @@ units-quantum config collector = units-steps config.quantum config.quantum false
 
 -- Costs ------------------------------------------------------------------------------------------
 
-first_mark_cost-positive : (table : Table Block) (grey : List ℕ) → 0 < first_mark_cost table grey
-first_mark_cost-positive table grey = grind arith
-
-move_cost-positive : (has_moved : Bool) (move : Option Move) → 0 < move_cost has_moved move
-move_cost-positive has_moved move = grind arith
-
 cost_in-positive : (phase : Phase) (collector : Collector) (has_moved : Bool) → is_idle phase ≡ false → 0 < cost_in phase collector has_moved
 cost_in-positive phase collector has_moved runs = grind arith
 
@@ -48,15 +42,6 @@ cost_in-positive phase collector has_moved runs = grind arith
 pub step_cost-positive : (collector : Collector) (has_moved : Bool) → is_idle collector.phase ≡ false → 0 < step_cost collector has_moved
 unfolding step_cost
 step_cost-positive collector has_moved runs = cost_in-positive collector.phase collector has_moved runs
-
-first_mark_cost-bounded : (table : Table Block) → IsSized table → (grey : List ℕ) → first_mark_cost table grey ≤ 61
-first_mark_cost-bounded table sized grey = grind arith
-
-move_cost-bounded : (has_moved : Bool) (move : Option Move) → ((m : Move) → move ≡ Some m → m.class_size ≤ 64) → move_cost has_moved move ≤ least_quantum
-move_cost-bounded has_moved move small = grind arith
-
-next_move-small : (table : Table Block) (place : ℕ) → IsSized table → (move : Move) → next_move table place ≡ Some move → move.class_size ≤ 64
-next_move-small table place sized move e = grind arith
 
 cost_in-bounded : (phase : Phase) (collector : Collector) (has_moved : Bool) → IsSized collector.table → cost_in phase collector has_moved ≤ least_quantum
 cost_in-bounded other collector has_moved sized = grind arith

@@ -1,6 +1,6 @@
 -- Where the fields of objects lie, what lies there, and what references lead to.
 -- In a kept heap a root slot holds an object. Each of its fields is found behind no spine, one or two, and its references lead on to objects.
-use Rattle.std.proofs.Common.{◌≡◌, ℕ, suc, ◌+◌, ◌/◌, ◌%◌, ◌<◌, Bool, true, inl, inr, List, ◌∷◌, length, get_or, slice_get, Option, Some, None, option_map, option_and_then, refl, sym, ap, ◌∙◌, subst, arith}
+use Rattle.std.proofs.Common.{◌≡◌, ℕ, suc, ◌+◌, ◌/◌, ◌%◌, ◌<◌, Bool, true, inl, inr, List, ◌∷◌, get_or, slice_get, Option, Some, None, option_map, option_and_then, refl, sym, ap, ◌∙◌, subst, arith}
 use Rattle.std.proofs.{lemmas.Bool.ltb-true, lemmas.Option.{none-some, same_Some}}
 use Rattle.mh_model.specs.{declared.shape.Shape.Shape, Pages.block_at}
 use Rattle.mh_model.specs.Table.{Block, references_at, numbers_at, resolve, target_of, is_spine, is_tall, is_at, spine_place, position_of, reference_in}
@@ -60,12 +60,7 @@ module _ (n : ℕ) (c : Collector) (h : IsSound n c) (p : ℕ) (z : Block) (plai
       let l = laid n c h p z plain first field below in
       let at : ℕ = (position_of c.table p field).place in
       let run = run-at z.header.references z.header.numbers 0 (field_blocks c.table z) (are_runs n c h p z plain first) (field / 60) l.block l.at in
-      let references : length (references_at c.table at) ≡ length l.block.references = ap length (references-of c at l.block l.lies) in
-      let numbers : length (numbers_at c.table at) ≡ length l.block.numbers = ap length (numbers-of c at l.block l.lies) in
-      let own = run.references in
-      let owned = run.numbers in
-      let index = l.index in
-      grind (arith, has_fields)
+      grind (arith, references-of, numbers-of, has_fields)
 
   -- what a reference there leads to
   pub field_leads : field < z.header.references → (reference : ℕ) → reference_in c.table (position_of c.table p field) ≡ Some reference → LeadsToObject c reference

@@ -6,16 +6,13 @@ use Rattle.std.proofs.lemmas.Bool.{false≢true, cases_Bool}
 use Rattle.mh_model.specs.{declared.config.Config.Config, declared.cycle.Phase.Phase}
 use Rattle.mh_model.specs.{declared.cycle.Phase.TheVariants.{Sweep, Defrag}, Pages.block_at, Table.{Block, forward_at}}
 use Rattle.mh_model.specs.Collector.{Collector, Move, Spending, with_move, sweep_step, after_mark, collector_step, step_cost, is_moving, is_idle, is_start_due, quantum_start, steps, quantum}
-use Rattle.mh_model.specs.Invariant.{in_trace, in_defrag, KeepsSnapshot, IsSteady}
+use Rattle.mh_model.specs.Invariant.{in_trace, KeepsSnapshot, IsSteady}
 use Rattle.mh_laws.specs.Forwarders.{after_steps, BeginsToDefragment, IsMadeSince, MakesItsForwarders, QuantaMakeTheirForwarders}
 use Rattle.mh_laws.proofs.{bounds.CycleBounds.steps-number, costs.Quanta.{steps-stop, steps-go}}
 use Rattle.mh_laws.proofs.{costs.QuantumStarts.begins, sweeping.SweepSteps.snapshot-sweep_step}
 use Rattle.mh_laws.proofs.{snapshots.CycleSteps.continues-collector_step, snapshots.SteadyStates.collectors-steady}
 
 -- Steps ------------------------------------------------------------------------------------------
-
-trace-after_mark : (c : Collector) (grey : List ℕ) → in_trace (after_mark c grey).phase ≡ true
-trace-after_mark c grey = grind arith
 
 -- from marking and the sweep a step leads to defragmentation alone, and from the sweep
 trace-step : (c : Collector) → in_trace c.phase ≡ true → in_trace (collector_step c).phase ≡ false → (c.phase ≡ Sweep) × ((collector_step c).phase ≡ Defrag)
@@ -52,9 +49,7 @@ none-forwarded c (snapshot, n, h) sweeps defrags place = by_block (block_at swep
     same = grind arith
 
     original : (block : Block) → block_at swept.table place ≡ Some block → block.forward ≡ None
-    original block at =
-        let stamp = kept.sound.marked (ap in_defrag defrags) place block (ap (λ t. block_at t place) same ∙ at) in
-        kept_swept.sound.original (ap in_trace sweeps) place block at (stamp ∙ cycle-collector_step c)
+    original block at = grind (arith, kept, same, kept_swept, cycle-collector_step)
 
     by_block : (content : Option Block) → block_at swept.table place ≡ content → forward_at (collector_step c).table place ≡ None
     by_block content at = grind (arith, same, original)

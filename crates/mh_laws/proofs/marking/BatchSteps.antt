@@ -143,9 +143,7 @@ batch-ends collector batch (place ∷ rest) left has_moved phase e once some mor
     let is : batch_marked (marking_of collector) batch (place ∷ rest) ≡ with_front (place ∷ rest) marked =
     ap (λ grey. batch_written (record (marking_of collector) { grey = grey }) batch all) (sym (append-nil (place ∷ rest))) ∙ batch_written-front batch all (place ∷ rest) start in
     let cost : step_cost (with_marking (with_phase collector Mark 0) (with_front (place ∷ rest) marked)) has_moved ≡ mark_cost marked.table place = cost-front (with_phase collector Mark 0) place rest marked has_moved refl in
-    let same : mark_cost marked.table place ≡ mark_cost collector.table place = ap (λ (r : List (Option ℕ)). 1 + length r) (batch_written-other batch all start place (apart-front batch place rest (subst NoneTwice e once))) in
-    let left_after : ℕ = left - batch_cost collector.table batch in
-    grind (arith, stops-short, with_front)
+    grind (arith, batch_written-other, apart-front, stops-short, with_front)
 
 mark-stops : (collector : Collector) (left : ℕ) (has_moved : Bool) → collector.phase ≡ Mark → left < first_mark_cost collector.table collector.grey → steps left left has_moved collector ≡ record { units = 0; collector = collector }
 unfolding step_cost
@@ -186,9 +184,7 @@ module _ (table : Table Block) where
       go : (small : Bool) → nat_le (mark_cost table place) left ≡ small → IsLongestFront most table (left - mark_cost table place) grey (longest_front most table (left - mark_cost table place) grey)
           → IsLongestFront (suc most) table left (place ∷ grey) (if small then place ∷ longest_front most table (left - mark_cost table place) grey else [])
       go true e after = one_more most place left grey (longest_front most table (left - mark_cost table place) grey) (leb-true (mark_cost table place) left e) after
-      go false e after =
-          let dear : left < mark_cost table place = leb-false (mark_cost table place) left e in
-          no_front (suc most) left (place ∷ grey) (λ other rest is few fits. too_dear place left grey other rest dear is fits) (inr (inr dear))
+      go false e after = grind (arith, leb-false, no_front, too_dear, inr)
   longest_front-is most left grey = grind (arith, no_front, nothing_in)
 
 -- Any cut into batches gives the machine of one block at a time

@@ -193,16 +193,7 @@ module _ (c : Collector) (p : ℕ) (b b' : Block) (grey' : List ℕ) (change : I
       straight_still x is i r e = resolve-changed r ∙ is i r e
 
       straight : in_trace c.phase ≡ true → (q : ℕ) (x x' : Block) → Pair q x x' → x'.stamp ≡ c.cycle → IsIn q grey' ⊎ IsStraight changed.table x'
-      straight t q x x' pair s = elim pair.case [
-        | inr same ↦ elim (h.straight t q x pair.old (sym (ap (λ z. z.stamp) same) ∙ s)) [
-          | inl is ↦ inl (change.grows q is)
-          | inr is ↦ inr (subst (IsStraight changed.table) (sym same) (straight_still x is))
-        ]
-        | inl k ↦ elim (change.straight t (sym (ap (λ z. z.stamp) k.2) ∙ s)) [
-          | inl is ↦ inl (subst (λ z. IsIn z grey') (sym k.0) is)
-          | inr is ↦ inr (subst (IsStraight changed.table) (sym k.2) (straight_still b' is))
-        ]
-      ]
+      straight t q x x' pair s = grind (arith, inr, inl, straight_still)
 
   -- The running cycle ----------------------------------------------------------------------------
 
@@ -216,13 +207,7 @@ module _ (c : Collector) (p : ℕ) (b b' : Block) (grey' : List ℕ) (change : I
   links-changed : LosesOnlyMarked → (q t : ℕ) → Links c.table q t → IsMarkedAt changed t ⊎ Links changed.table q t
   links-changed loses q t (x, i, s, there, e, to) =
       let (x', pair) = forth q x there in
-      elim pair.case [
-        | inr same ↦ inr (x', i, s, pair.new, ap (λ z. get_or z.references i None) same ∙ e, resolve-changed s ∙ to)
-        | inl k ↦ elim (loses i s (ap (λ z. get_or z.references i None) (sym k.1) ∙ e)) [
-          | inr marked ↦ inl (marked_at t (subst (IsMarkedAt c) to marked))
-          | inl word ↦ inr (x', i, word.0, pair.new, ap (λ z. get_or z.references i None) k.2 ∙ word.1, resolve-changed word.0 ∙ word.2 ∙ to)
-        ]
-      ]
+      grind (arith, inr, resolve-changed, inl, marked_at)
 
   pub keeps-changed : LosesOnlyMarked → Keeps c changed
   keeps-changed loses = record {

@@ -57,11 +57,7 @@ module _ (snapshot : World) (n : ℕ) (c : Collector) (front : List ℕ) (m : Ma
     change = grind (arith, is_in-last, is_in-left, is_in-either, false≢true)
 
     keeps : IsKeptChange d place b b' grey' change snapshot n
-    keeps = record {
-      loses = λ t i r e. inl (r, e, refl);
-      kept = λ t s. (kept b there).1;
-      words = λ t is i r x e f. h.cycle.references marks place b i r x there (kept b there).0 is e f;
-    }
+    keeps = grind (arith, inl)
 
     shades : Shades m (with_grey m place b) place
     shades = record {
@@ -131,14 +127,7 @@ module _ (snapshot : World) (n : ℕ) (c : Collector) (g : ℕ) (marks : in_root
     twice i s e = grind (arith, leads n e₀ h.sound g old plain i s e)
 
     words : (i r : ℕ) → get_or stored.references i None ≡ Some r → (s : ℕ) × (get_or old.references i None ≡ Some s) × (resolve m.table r ≡ resolve m.table s)
-    words i r e = elim (cases_eq i index) [
-      | inr apart ↦ (r, sym (get_or-set_other old.references index i (target_of m.table o) None apart) ∙ e, refl)
-      | inl is ↦
-          let t : target_of m.table o ≡ Some r = read_stored old.references index r (target_of m.table o) (ap (λ k. get_or stored.references k None) (sym is) ∙ e) in
-          let (s, f, to) = target_back m.table o r t in
-          let f' : get_or old.references i None ≡ Some s = ap (λ k. get_or old.references k None) is ∙ read_ahead ∙ f in
-          (s, f', ap (resolve m.table) (sym to) ∙ twice i s f')
-    ]
+    words i r e = grind (arith, cases_eq, inr, get_or-set_other, inl, read_stored, target_back, read_ahead, twice)
 
     words_kept : (i s : ℕ) → get_or old.references i None ≡ Some s → (r : ℕ) × (get_or stored.references i None ≡ Some r) × (resolve m.table r ≡ resolve m.table s)
     words_kept i s e = elim (cases_eq i index) [
@@ -153,11 +142,7 @@ module _ (snapshot : World) (n : ℕ) (c : Collector) (g : ℕ) (marks : in_root
     store_change = grind (arith, length-set, false≢true, words, words_kept)
 
     store_keeps : IsKeptChange e₀ g old stored (g ∷ m.grey) store_change snapshot n
-    store_keeps = record {
-      loses = λ t i s e. inl (words_kept i s e);
-      kept = λ t s. h.cycle.marked t g old scan.there s;
-      words = λ t is i r x e f. let (s, e', to) = words i r e in h.cycle.references marks g old i s x scan.there scan.live is e' (ap (block_at m.table) (sym to) ∙ f);
-    }
+    store_keeps = grind (arith, inl, words_kept, words)
 
     abbrev m₁ : Marking
     m₁ = record m { table = with_block m.table g (Some (record (scan.block) { references = set scan.block.references index (target_of m.table o) })) }

@@ -89,9 +89,6 @@ module _ (snapshot : World) (n : ℕ) (c : Collector) (defrags : c.phase ≡ Def
   not_q : (x : ℕ) (y : Block) → block_at c.table x ≡ Some y → x ≢ q
   not_q x y e k = none-some y (sym is.free ∙ ap (block_at c.table) (sym k) ∙ e)
 
-  not_p : (x : ℕ) → IsUnflagged c.table x → x ≢ p
-  not_p x u e = grind arith
-
   in_it : in_defrag c.phase ≡ true
   in_it = ap in_defrag defrags
 
@@ -135,10 +132,7 @@ module _ (snapshot : World) (n : ℕ) (c : Collector) (defrags : c.phase ≡ Def
   live_from x y e live = grind (arith, from x y e)
 
   pub live_forth : (x : ℕ) (y : Block) → block_at c.table x ≡ Some y → y.forward ≡ None → (x' : ℕ) × (block_at table' x' ≡ Some y)
-  live_forth x y e live = elim (cases_eq x p) [
-    | inl same ↦ (q, at_q ∙ sym is.there ∙ ap (block_at c.table) (sym same) ∙ e)
-    | inr not_here ↦ (x, at_other x not_here (not_q x y e) ∙ e)
-  ]
+  live_forth x y e live = grind (arith, cases_eq, inl, at_q, inr, at_other, not_q)
 
   plain_then : (x : ℕ) (y : Block) → block_at table' x ≡ Some y → y.forward ≡ None → IsPlainAt moved x y
   plain_then x y e live = grind arith

@@ -6,7 +6,7 @@ use Rattle.mh_model.specs.{declared.shape.Shape.Shape, Classes.{Part, parts, cla
 use Rattle.mh_model.specs.Pages.{Page, Table, page_number, slot_number, page_at, block_at, least_place, page_with, page_for, with_taken}
 use Rattle.mh_model.specs.Table.{Block, Made, MadeParts, new_block, made_in_class, made_parts, with_block_change, words_of, linked_block, linked_parts, group_of, made_group}
 use Rattle.mh_model.specs.Invariant.{IsPartOf, first_child}
-use Rattle.mh_table_laws.specs.NewObjects.{IsGroup}
+use Rattle.mh_table_laws.specs.Auxiliary.{IsGroup}
 use Rattle.mh_table_laws.proofs.{placing.Places.IsShaped, objects.Parts.{slice_there, child_is, children_inside}}
 use Rattle.mh_table_laws.proofs.objects.MadeGroups.{length-words_of, made_parts-shaped, made_group-is}
 use Rattle.mh_laws.proofs.marking.BlockChanges.{pages-with_block}

@@ -2,7 +2,7 @@
 use Rattle.std.proofs.Common.{◌≡◌, ◌⊎◌, inl, inr, ℕ, zero, suc, ◌+◌, ◌-◌, ◌<◌, ◌≤◌, nat_le, nat_lt, Bool, true, false, ◌||◌, Option, Some, None, option_map, ◌∷◌, set, refl, sym, ap, ◌∙◌, subst, arith}
 use Rattle.std.proofs.{lemmas.Bool.{cases_Bool, or_parts, leb-false, true≢false}, lemmas.List.set-get_or}
 use Rattle.mh_model.specs.{declared.config.Config.Config, declared.cycle.Phase.Phase}
-use Rattle.mh_model.specs.Pages.{Table, page_number, slot_number, page_at, free_pages, page_with, with_block, with_taken, HaveTheirSlots}
+use Rattle.mh_model.specs.Pages.{Table, page_number, slot_number, page_at, free_pages, page_with, with_block, HaveTheirSlots}
 use Rattle.mh_model.specs.Table.{Block}
 use Rattle.mh_model.specs.Collector.{Collector, swept_table, Move, next_move, with_move, step_in, collector_step, step_cost, is_moving, is_idle, cycle_start, steps, quantum}
 use Rattle.mh_model.specs.CycleBounds.{IsInBounds}
@@ -32,8 +32,7 @@ free-move : (collector : Collector) → HaveTheirSlots collector.table → (move
 free-move collector slots None is = refl
 free-move collector slots (Some move) is =
     let (page, at, of_class, unflagged, empty) = least_dense_place-page collector.table move.class_size (shaped-slots collector.table slots) move.target (next_move-is collector.table collector.cursor move is).target in
-    let taken : Table Block = with_taken collector.table move.class_size move.target move.block in
-    free-with_block taken collector.cursor (Some (record (move.block) { forward = Some move.target })) ∙ (taken-in_use collector.table move.class_size move.target move.block page at of_class).free
+    grind (arith, free-with_block, taken-in_use)
 
 free-step_in : (phase : Phase) (collector : Collector) → HaveTheirSlots collector.table → free_pages collector.table ≤ free_pages (step_in phase collector).table
 free-step_in phase collector slots = grind (arith, with_shade-room, mark_first-room, free-swept, free-move)

@@ -8,7 +8,7 @@ use Rattle.std.specs.List.{sum_by}
 use Rattle.mh_model.specs.Classes.{slots_in}
 use Rattle.mh_model.specs.Pages.{Page, Table, page_number, slot_number, page_at, block_in, block_at, flag_at, free_pages, is_dense, empty_slot, open_slot, page_with, with_block, page_for, with_taken}
 use Rattle.mh_model.specs.Openings.{LeavesFlagged}
-use Rattle.mh_table_laws.specs.Placing.{GivesNone}
+use Rattle.mh_table_laws.specs.Auxiliary.{GivesNone}
 use Rattle.mh_table_laws.proofs.Lists.{below_length, get_or-set_either}
 use Rattle.mh_table_laws.proofs.placing.Places.{with_block-self, block_at-with_block_other, block_at-with_taken_other}
 

@@ -33,12 +33,7 @@ module _ (n : ℕ) (c : Collector) (h : IsSound n c) where
   pub found-first : (birth : ℕ) (y : Block) → block_of_birth c birth ≡ Some y → (place : ℕ) × IsFirstAt c birth place y
   found-first birth y e =
       let (m, s, at, pass) = first_block-is (λ place block. is_held c place block && ((block.birth == birth) && (block.part == 0))) 0 c.table y e in
-      let small : s < 64 = slot_below m s y at in
-      let page_is : (64 * m + s) / 64 ≡ m = omega arith in
-      let slot_is : (64 * m + s) % 64 ≡ s = omega arith in
-      let from_0 : 64 * (0 + m) + s ≡ 64 * m + s = omega arith in
-      let (a, b) = and_parts (is_held c (64 * (0 + m) + s) y) ((y.birth == birth) && (y.part == 0)) pass in
-      grind (arith, and_parts, eqb-true)
+      grind (arith, slot_below, and_parts, eqb-true)
 
   -- and what is held at a place is found
   pub first-found : (birth place : ℕ) (z : Block) → IsFirstAt c birth place z → block_of_birth c birth ≡ Some z

@@ -58,10 +58,7 @@ module _ (n : ℕ) (c d : Collector) (h : IsSound n c) (follows : Follows c d) w
 
   -- the spine that has a reference to an arraylet
   word-plain : (p : ℕ) (x : Block) (k r : ℕ) → IsPlainAt c p x → get_or (arraylet_words c.table x) k None ≡ Some r → (q : ℕ) × (y : Block) × (i : ℕ) × IsPlainAt c q y × (get_or y.references i None ≡ Some r)
-  word-plain p x k r plain e = elim (arraylet_word-back c.table x k r e) [
-    | inl own ↦ (p, x, k, plain, own)
-    | inr far ↦ let (y, j, w, i, word, there, own) = far in (resolve c.table w, y, i, led-plain p x y j w plain word there, own)
-  ]
+  word-plain p x k r plain e = grind (arith, arraylet_word-back, inl, inr, led-plain)
 
   fields-same : (p : ℕ) (x : Block) → IsPlainAt c p x → field_blocks d.table x ≡ field_blocks c.table x
   fields-same p x plain = go (is_spine x)
@@ -72,9 +69,7 @@ module _ (n : ℕ) (c d : Collector) (h : IsSound n c) (follows : Follows c d) w
 
   field-plain : (p : ℕ) (x y : Block) → IsPlainAt c p x → IsFieldBlock c.table x y → (q : ℕ) × IsPlainAt c q y
   field-plain p x y plain (inl (flat, same)) = (p, subst (IsPlainAt c p) (sym same) plain)
-  field-plain p x y plain (inr (spine, (k, r, e, there))) =
-      let (q, s, i, plain_s, own) = word-plain p x k r plain e in
-      (resolve c.table r, led-plain q s y i r plain_s own there)
+  field-plain p x y plain (inr (spine, (k, r, e, there))) = grind (arith, word-plain, led-plain)
 
   -- the object of a plain block is the same in both
   pub object-same : (p : ℕ) (x : Block) → IsPlainAt c p x → object_of d.table x ≡ object_of c.table x

@@ -19,12 +19,7 @@ module _ (snapshot : World) (n : ℕ) where
 
   -- it may be written after a barrier too
   writable_after : (c d : Collector) (o reference : Option ℕ) → in_roots_or_mark c.phase ≡ true → IsGuarded snapshot n c d o → IsWritable c reference → IsWritable d reference
-  writable_after c d o reference marks g w = record {
-    leads = λ r e.
-        let (x, plain, first, kept) = w.leads r e in
-        let (s, there) = g.blocks r x plain.there in
-        (record x { stamp = s }, record { there = there; original = plain.original; surviving = λ sweeps. absurd (not_sweep d.phase (ap in_roots_or_mark g.phase ∙ marks) sweeps) }, first, λ m. kept marks);
-  }
+  writable_after c d o reference marks g w = grind (arith, leads, not_sweep)
 
   -- Roots ----------------------------------------------------------------------------------------
 
@@ -90,12 +85,7 @@ module _ (snapshot : World) (n : ℕ) where
 
   -- what a root holds may be written
   pub root_writable : (c : Collector) (slot : ℕ) → KeepsSnapshot snapshot n c → IsWritable c (get_or c.slots slot None)
-  root_writable c slot h = record {
-    leads = λ r e.
-        let (x, plain, first) = h.sound.slots slot r e in
-        let self : resolve c.table r ≡ r = resolve-live c.table r x plain.there plain.original in
-        (x, plain, first, λ m. h.cycle.slots m slot r x e (ap (block_at c.table) self ∙ plain.there));
-  }
+  root_writable c slot h = grind (arith, leads, resolve-live)
 
   -- Fields ---------------------------------------------------------------------------------------
 

@@ -247,9 +247,7 @@ module _ (heap : HeapState) (no_sweep : in_sweep heap.collector.phase ≡ false)
       by_children None flat f = fields f flat x.part refl
       by_children (Some child) spine f =
           let (w, word, (y, plain, birth_y, part_y)) = h.spines q x child (plain_of q x there live) spine i (below_length x.references i r e) in
-          let same_w : w ≡ r = same_Some w r (sym word ∙ e) in
-          let same_y : y ≡ t = same_Some y t (sym plain.there ∙ ap (λ z. block_at t₀ (resolve t₀ z)) same_w ∙ there_t) in
-          subst (Reachable view) (sym birth_y ∙ ap (λ z. z.birth) same_y) (path, is_path)
+          grind (arith, same_Some, plain)
 
   -- The cycle that starts keeps what is reachable in the view at its start
   pub snapshot-started : KeepsSnapshot (heap_view heap) heap.next_birth (cycle_start heap.collector)

@@ -61,8 +61,7 @@ module _ (snapshot : World) (n : ℕ) (c : Collector) (shape : Shape) (made : Ma
   pub new_word : (index q : ℕ) (x : Block) → IsNewborn n c.cycle shape born.places index x → (i r : ℕ) → get_or x.references i None ≡ Some r → (child : ℕ) × (first_child shape index ≡ Some child) × ((y : Block) × IsPlainAt borne r y × (resolve borne.table r ≡ r) × IsNewborn n c.cycle shape born.places (child + i) y)
   new_word index q x newborn i r e =
       let (child, spine, at) = newborn.words i r e in
-      let (y, there, new) = new_at (child + i) r at in
-      (child, spine, (y, plain_new (child + i) r y there new, resolve-live borne.table r y there new.live, new))
+      grind (arith, new_at, at, plain_new, resolve-live)
 
   shapes : ℕ → Shape
   shapes birth = if birth == n then shape else h.sound.shapes birth

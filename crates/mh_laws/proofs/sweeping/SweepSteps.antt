@@ -123,8 +123,7 @@ module _ (snapshot : World) (n : ℕ) (c : Collector) (sweeps : c.phase ≡ Swee
   straight_then : (q : ℕ) (x : Block) → IsPlainAt c q x → (i r : ℕ) → get_or x.references i None ≡ Some r → resolve swept.table r ≡ r
   straight_then q x plain i r e =
       let (y, plain') = leads n c h.sound q x plain i r e in
-      let at_r = plain_forth r y (subst (λ z. IsPlainAt c z y) (straight_now q x plain i r e) plain') in
-      resolve-live swept.table r y at_r.there at_r.original
+      grind (arith, plain_forth, straight_now, resolve-live)
 
   pub referred_then : (q : ℕ) (x : Block) → IsPlainAt c q x → (i r : ℕ) → get_or x.references i None ≡ Some r → (y : Block) → IsPlainAt c (resolve c.table r) y → IsPlainAt swept (resolve swept.table r) y
   referred_then q x plain i r e y plain' = subst (λ z. IsPlainAt swept z y) (sym (straight_then q x plain i r e)) (plain_forth r y (subst (λ z. IsPlainAt c z y) (straight_now q x plain i r e) plain'))

@@ -2,7 +2,7 @@
 use Rattle.std.proofs.Common.{◌≡◌, ◌+◌, ℕ, Option, Some, None, List, [], ◌∷◌, false, true, length, refl, ◌≤◌, lit<, arith, get_or, nat_lt, if◌then◌else◌}
 use Rattle.std.proofs.lemmas.Bool.Decides.{nat_tests}
 use Rattle.mh_model.specs.History.{ClaimState, has_ended, IsDrawn, OnlyLastPast, times_drawn, with_draw, draw_answer}
-use Rattle.mh_seat_laws.specs.Laws.{AllHaveEnded}
+use Rattle.mh_seat_laws.specs.Auxiliary.{AllHaveEnded}
 
 -- seats draw in this order: what they are answered
 abbrev answers : ℕ → ClaimState → List ℕ → List (Option ℕ)

@@ -1,19 +1,17 @@
 -- What the stretches of a whole trace have, those of its end have.
-use Rattle.std.proofs.Common.{◌≡◌, ◌≢◌, ℕ, suc, ◌+◌, ◌≤◌, ◌==◌, Bool, true, false, Some, None, if◌then◌else◌, List, [], ◌∷◌, ◌++◌, drop, length, take, refl, ap, ◌∙◌, subst, arith}
+use Rattle.std.proofs.Common.{◌≡◌, ◌≢◌, ℕ, suc, ◌+◌, ◌≤◌, ◌==◌, Bool, true, false, Some, None, if◌then◌else◌, List, [], ◌∷◌, ◌++◌, drop, length, refl, ap, ◌∙◌, subst, arith}
 use Rattle.std.proofs.{lemmas.Bool.eqb-false, lemmas.List.length-append, lemmas.Option.{none-some, same_Some}}
 use Rattle.mh_model.specs.{declared.command.Event.Event, declared.config.Config.Config}
 use Rattle.mh_model.specs.Machine.{floor_of, report_on, first_machine, machine_after}
-use Rattle.mh_model.specs.Trace.{Letter, TraceState, floor, least_mutator, mutator_count}
+use Rattle.mh_model.specs.Trace.{Letter, TraceState, floor, least_mutator}
 use Rattle.mh_run_laws.proofs.trace.RunTraces.{mutator_share, quanta_within}
 use Rattle.mh_run_laws.proofs.windows.StretchLemmas.{HasLeast, has_least, least_at, no_longer}
-use Rattle.mh_run_laws.specs.{Windows.{IsLeast, KeepsFloor, units_in}, Forgetting.{IsEndOf, KeepsPromise}}
+use Rattle.mh_run_laws.specs.{Windows.{IsLeast, KeepsFloor}, Forgetting.{IsEndOf, KeepsPromise}}
 use Rattle.mh_run_laws.specs.ForgettingLaws.{ForgottenTracesKeepTheirPromise}
 
 -- a stretch of the end is one of the whole
 drop-before : (before end : List Letter) (start : ℕ) → drop (length before + start) (before ++ end) ≡ drop start end
-drop-before [] end start =
-    let none : length {A = Letter} [] + start ≡ start = omega arith in
-    ap (λ n. drop n end) none
+drop-before [] end start = grind arith
 drop-before (letter ∷ before) end start =
     let one : length (letter ∷ before) + start ≡ suc (length before + start) = omega arith in
     ap (λ n. drop n ((letter ∷ before) ++ end)) one ∙ drop-before before end start
@@ -24,10 +22,7 @@ ends_least window before end least some =
     let long : window ≤ length end = no_longer end window least some in
     let is : IsLeast end window least = least_at end window least some in
     let whole : HasLeast (before ++ end) window = has_least (before ++ end) window (omega (arith, long, length-append before end)) in
-    let start : ℕ = is.at.0 in
-    let there : units_in (before ++ end) (length before + start) window ≡ units_in end start window = ap (λ letters. mutator_count (take window letters)) (drop-before before end start) in
-    let below : whole.least ≤ units_in (before ++ end) (length before + start) window = (whole.is).below (length before + start) (omega (arith, is.at.1, length-append before end)) in
-    (whole.least, whole.some, omega (arith, below, there, is.at.2))
+    grind (arith, drop-before, length-append)
 
 -- so an end keeps each floor that the whole keeps
 end-keeps : (m k : ℕ) (before end : List Letter) → KeepsFloor m k (before ++ end) → KeepsFloor m k end

@@ -1,10 +1,10 @@
 -- What an event leaves of a machine that has forgotten the beginning of its trace.
-use Rattle.std.proofs.Common.{◌≡◌, ℕ, ◌==◌, Bool, true, false, if◌then◌else◌, [], ◌++◌, replicate, refl, sym, ap, ◌∙◌, subst, arith, append_assoc}
+use Rattle.std.proofs.Common.{◌≡◌, ℕ, ◌==◌, Bool, true, false, if◌then◌else◌, [], refl, sym, ap, subst, arith, append_assoc}
 use Rattle.std.proofs.lemmas.List.{append-nil}
 use Rattle.mh_model.specs.{declared.command.Command.Command, declared.command.Control.Control}
 use Rattle.mh_model.specs.{declared.command.Event.Event, declared.reply.Reply.Reply}
 use Rattle.mh_model.specs.Machine.{Machine, is_quantum_due, quantum_run, with_due_quantum, command_step, control_step, half_step, event_step}
-use Rattle.mh_model.specs.{Trace.{M, C, TraceState, with_mutator, with_spent}, World.says}
+use Rattle.mh_model.specs.{Trace.{TraceState, with_mutator, with_spent}, World.says}
 use Rattle.mh_run_laws.specs.Forgetting.{IsEndOf, Recalls, forgotten, is_report}
 use Rattle.mh_run_laws.specs.ForgettingLaws.{EventsKeepWhatIsRecalled}
 
@@ -12,20 +12,10 @@ use Rattle.mh_run_laws.specs.ForgettingLaws.{EventsKeepWhatIsRecalled}
 
 -- what one trace gains, its end gains too
 end-mutator : (whole end : TraceState) (units : ℕ) → IsEndOf whole end → IsEndOf (with_mutator whole units) (with_mutator end units)
-end-mutator whole end units is = record {
-  before = is.before;
-  letters = ap (λ letters. letters ++ replicate units M) is.letters ∙ append_assoc is.before end.letters (replicate units M);
-  quanta = is.quanta;
-  greatest = is.greatest;
-}
+end-mutator whole end units is = grind (arith, append_assoc)
 
 end-spent : (whole end : TraceState) (units : ℕ) → IsEndOf whole end → IsEndOf (with_spent whole units) (with_spent end units)
-end-spent whole end units is = record {
-  before = is.before;
-  letters = ap (λ letters. letters ++ replicate units C) is.letters ∙ append_assoc is.before end.letters (replicate units C);
-  quanta = omega (arith, is.quanta);
-  greatest = omega (arith, is.greatest);
-}
+end-spent whole end units is = grind (arith, append_assoc)
 
 -- One whose trace is another end -----------------------------------------------------------------
 
@@ -107,10 +97,8 @@ half-recalls whole machine (Event.Control control) is = is
 
 reply-recalls : (whole machine : Machine) (event : Event) → Recalls whole machine → is_report event ≡ false → (event_step machine event).reply ≡ (event_step whole event).reply
 unfolding event_step
-reply-recalls whole machine (Event.Session who command) is none =
-    subst (λ (m : Machine). (command_step m who command).reply ≡ (command_step whole who command).reply) (sym is.same) (command-answers whole machine.trace is.trace who command)
-reply-recalls whole machine (Event.Control control) is none =
-    subst (λ (m : Machine). (control_step m control).reply ≡ (control_step whole control).reply) (sym is.same) (control-answers whole machine.trace is.trace control none)
+reply-recalls whole machine (Event.Session who command) is none = grind (arith, command-answers)
+reply-recalls whole machine (Event.Control control) is none = grind (arith, control-answers)
 
 -- Events keep what is recalled
 pub events_keep : EventsKeepWhatIsRecalled

@@ -62,8 +62,7 @@ module _ (config : Config) where
 
   -- after one event more it lies as far back
   later-follows : (events : List Event) (e : Event) (c : Collector) → Follows events c → Follows (events ++ e ∷ []) c
-  later-follows events e c (begun, has, cycle, none) =
-      (begun, record { before = has.before; event = has.event; later = has.later ++ e ∷ []; split = ap (λ es. es ++ e ∷ []) has.split ∙ append_assoc has.before (has.event ∷ has.later) (e ∷ []); runs = has.runs; begins = has.begins }, cycle, none)
+  later-follows events e c (begun, has, cycle, none) = grind (arith, append_assoc, cycle)
 
   module _ (events : List Event) (e : Event) where
     abbrev half : HeapState

@@ -16,9 +16,7 @@ reachable_is_kept snapshot heap marks h birth (path, is_path) = Reachable-in (he
     t₀ = heap.collector.table
 
     in_slots : (slot b : ℕ) → slot_at (heap_view heap) slot ≡ Some b → IsKept snapshot heap.next_birth b
-    in_slots slot b e =
-        let (r, t, at, there, is) = named-back t₀ b heap.collector.slots slot (sym (slot-view heap slot) ∙ e) in
-        subst (IsKept snapshot heap.next_birth) is (h.cycle.slots marks slot r t at there)
+    in_slots slot b e = grind (arith, named-back, t₀, slot-view)
 
     along : (near b : ℕ) → IsKept snapshot heap.next_birth near → Refers (heap_view heap) near b → IsKept snapshot heap.next_birth b
     along near b kept (field, e) =

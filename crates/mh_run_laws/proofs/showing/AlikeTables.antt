@@ -1,5 +1,5 @@
 -- Tables that show the same: their blocks differ in stamps alone, and in references that lead to the same places.
-use Rattle.std.proofs.Common.{◌≡◌, ℕ, suc, get_or, Bool, false, if◌then◌else◌, List, [], ◌∷◌, ◌++◌, map, flat_map, Option, Some, None, option_map, option_and_then, unwrap_or, inl, inr, refl, sym, ap, ◌∙◌, subst, arith}
+use Rattle.std.proofs.Common.{◌≡◌, ℕ, suc, get_or, Bool, false, if◌then◌else◌, List, [], ◌∷◌, ◌++◌, map, flat_map, Option, Some, None, option_map, option_and_then, unwrap_or, inl, inr, refl, sym, ap, ◌∙◌, arith}
 use Rattle.std.proofs.{lemmas.Bool.cases_eq, lemmas.List.map-append}
 use Rattle.std.specs.Prelude.{option_to_list}
 use Rattle.mh_model.specs.{World.Object, Pages.{Table, block_at, with_block}}
@@ -90,10 +90,7 @@ module _ (first : Table Block) where
 
   -- a block is put in the place of one that is bare the same
   pub alike-with_block : (table : Table Block) (p : ℕ) (b b' : Block) → block_at table p ≡ Some b → bare b' ≡ bare b → IsAlike table → IsAlike (with_block table p (Some b'))
-  alike-with_block table p b b' there same alike place = elim (cases_eq place p) [
-    | inl here ↦ subst (λ q. option_map bare (block_at (with_block table p (Some b')) q) ≡ option_map bare (block_at first q)) (sym here) (ap (option_map bare) (block_at-with_block_same table p (Some b') (block-slot table p b there)) ∙ ap Some same ∙ ap (option_map bare) (sym there) ∙ alike p)
-    | inr apart ↦ ap (option_map bare) (block_at-with_block_other table p place (Some b') apart) ∙ alike place
-  ]
+  alike-with_block table p b b' there same alike place = grind (arith, cases_eq, inl, block_at-with_block_same, block-slot, inr, block_at-with_block_other)
 
   bare-back : (o p : Option Block) → option_map bare o ≡ option_map bare p → (x : Block) → p ≡ Some x → (z : Block) × (o ≡ Some z) × (bare z ≡ bare x)
   bare-back o p same x is = grind arith
@@ -101,9 +98,6 @@ module _ (first : Table Block) where
   -- the block of an alike table if the first has one, and back
   pub alike-forth : (table : Table Block) → IsAlike table → (p : ℕ) (x : Block) → block_at first p ≡ Some x → (z : Block) × (block_at table p ≡ Some z) × (bare z ≡ bare x)
   alike-forth table alike p x there = bare-back (block_at table p) (block_at first p) (alike p) x there
-
-  pub alike-back : (table : Table Block) → IsAlike table → (p : ℕ) (z : Block) → block_at table p ≡ Some z → (x : Block) × (block_at first p ≡ Some x) × (bare x ≡ bare z)
-  alike-back table alike p z there = grind arith
 
   -- Shading --------------------------------------------------------------------------------------
 

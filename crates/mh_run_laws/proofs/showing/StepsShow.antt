@@ -52,15 +52,7 @@ turned-view heap phase cursor quanta h k forth back =
 pub view-after_sweep : (snapshot : World) (heap : HeapState) → heap.collector.phase ≡ Sweep → is_past heap.collector.table heap.collector.cursor ≡ true → HeapKeeps snapshot heap → heap_view (record heap { collector = with_phase heap.collector Defrag 0 }) ≡ heap_view heap
 view-after_sweep snapshot heap sweeps past h =
     let k : IsSound heap.next_birth (with_phase heap.collector Defrag 0) = (snapshot-after_sweep snapshot heap.next_birth heap.collector sweeps past h).sound in
-    turned-view
-    heap
-    Defrag
-    0
-    heap.collector.quanta
-    h.sound
-    k
-    (λ p x plain. (p, record { there = plain.there; original = plain.original; surviving = λ s. absurd (false≢true s) }))
-    (λ p x plain. (p, record { there = plain.there; original = plain.original; surviving = λ s. k.marked refl p x plain.there }))
+    grind (arith, turned-view, false≢true)
 
 -- the cycle ends
 pub view-cycle_end : (snapshot : World) (heap : HeapState) → heap.collector.phase ≡ Defrag → HeapKeeps snapshot heap → heap_view (record heap { collector = cycle_end heap.collector }) ≡ heap_view heap

@@ -1,5 +1,5 @@
 -- One window decides on the floors of all.
-use Rattle.std.proofs.Common.{◌≡◌, ◌∙◌, ℕ, zero, suc, ◌+◌, ◌-◌, ◌*◌, ◌/◌, ◌%◌, ◌<◌, ◌≤◌, min, nat_lt, Bool, true, false, Some, List, length, ap, sym, refl, subst, arith}
+use Rattle.std.proofs.Common.{◌≡◌, ◌∙◌, ℕ, zero, suc, ◌+◌, ◌-◌, ◌*◌, ◌/◌, ◌%◌, ◌<◌, ◌≤◌, min, nat_lt, Bool, true, false, Some, List, length, ap, sym, refl, arith}
 use Rattle.std.proofs.{lemmas.Bool.Decides.nat_tests, lemmas.Nat.{div-mul-add, mod-mul-add, mod_below}}
 use Rattle.std.proofs.Math.Nat.{mod-add-div}
 use Rattle.mh_model.specs.Trace.{Letter, floor, least_mutator}
@@ -48,11 +48,7 @@ module _ (m k : ℕ) (some : 0 < m + k) where
         let rest : ℕ = w - (m + k) in
         let split : w ≡ m + k + rest = omega (arith, long, round) in
         let has = has_least letters rest (omega (arith, inside)) in
-        let first : least_mutator (m + k) letters ≡ Some least = subst (λ v. least_mutator v letters ≡ Some least) round decides in
-        let whole : least_mutator (m + k + rest) letters ≡ Some count = subst (λ v. least_mutator v letters ≡ Some count) split is in
-        let together : least + has.least ≤ count = grows.adds_up letters (m + k) rest least has.least count first has.some whole in
-        let floors : floor m k w ≡ m + floor m k rest = ap (floor m k) split ∙ floor_of_more rest in
-        omega (arith, floors, before has.least has.some, together, of_window, round)
+        grind (arith, grows, floor_of_more, of_window)
 
     all : (most w count : ℕ) → w ≤ most → least_mutator w letters ≡ Some count → floor m k w ≤ count
     all zero w count few is = short w count (omega (arith, few)) is
@@ -62,7 +58,4 @@ module _ (m k : ℕ) (some : 0 < m + k) where
       by true test before = let long : window < w = grind (arith, nat_tests) in longer w count long is (λ fewer. before fewer (omega (arith, few, some)))
 
 pub one_decides : OneWindowDecides
-one_decides letters m k least some decides = (
-  λ keeps. keeps (min (m + k) (length letters)) least decides,
-  λ keeps window count is. all m k some letters (min (m + k) (length letters)) least refl decides keeps window window count (omega arith) is,
-)
+one_decides letters m k least some decides = grind (arith, all)

@@ -2,7 +2,7 @@
 use Rattle.std.proofs.Common.{◌≡◌, ℕ, ◌+◌, ◌-◌, ◌*◌, ◌<◌, ◌≤◌, nat_lt, Bool, true, false, List, length, ap, refl, arith}
 use Rattle.std.proofs.{lemmas.Bool.Decides.nat_tests, lemmas.Nat.mul-le}
 use Rattle.mh_model.specs.Trace.{Letter}
-use Rattle.mh_run_laws.specs.{WindowLaws.{LeastGrows, SharesBetween}, Windows.{IsLeast, before, units_in}}
+use Rattle.mh_run_laws.specs.{WindowLaws.{LeastGrows, SharesBetween}, Windows.{IsLeast, units_in}}
 use Rattle.mh_run_laws.proofs.windows.StretchLemmas.{least_at, units_between, units_few}
 
 module _ (letters : List Letter) where
@@ -13,13 +13,10 @@ module _ (letters : List Letter) where
       let whole = units_between letters start w in
       let part = units_between letters start v in
       let later = units_between letters (start + v) (w - v) in
-      let end : before letters (start + w) ≡ before letters (start + v + (w - v)) = ap (before letters) rest in
-      omega (arith, whole, part, later, end)
+      grind arith
 
   falls_never : (v w a b : ℕ) → v ≤ w → IsLeast letters v a → IsLeast letters w b → a ≤ b
-  falls_never v w a b less short long =
-      let there = long.at in
-      omega (arith, short.below there.0 (omega (arith, there.1, less)), longer there.0 v w less, there.2)
+  falls_never v w a b less short long = grind (arith, longer)
 
   -- a window stands around the stretch with the least of a shorter one
   around : (v w start first : ℕ) → first ≤ start → start + v ≤ first + w → units_in letters first w + v ≤ units_in letters start v + w
@@ -28,11 +25,7 @@ module _ (letters : List Letter) where
       let part = units_between letters start v in
       let head = units_between letters first (start - first) in
       let tail = units_between letters (start + v) (first + w - (start + v)) in
-      let to_start : first + (start - first) ≡ start = omega (arith, low) in
-      let to_end : start + v + (first + w - (start + v)) ≡ first + w = omega (arith, high) in
-      let at_start : before letters (first + (start - first)) ≡ before letters start = ap (before letters) to_start in
-      let at_end : before letters (start + v + (first + w - (start + v))) ≡ before letters (first + w) = ap (before letters) to_end in
-      omega (arith, whole, part, head, tail, at_start, at_end, units_few letters first (start - first), units_few letters (start + v) (first + w - (start + v)), low, high)
+      grind (arith, units_few)
 
   grows_slowly : (v w a b : ℕ) → v ≤ w → IsLeast letters v a → IsLeast letters w b → b + v ≤ a + w
   grows_slowly v w a b less short long = by (nat_lt (length letters) (start + w)) refl where
@@ -47,9 +40,7 @@ module _ (letters : List Letter) where
         let late : length letters < start + w = grind (arith, nat_tests) in
         let first : ℕ = length letters - w in
         omega (arith, long.below first (omega (arith, room)), around v w start first (omega (arith, late, room)) (omega (arith, short.at.1, room)), short.at.2)
-    by false test =
-        let early : start + w ≤ length letters = grind (arith, nat_tests) in
-        omega (arith, long.below start early, around v w start start (omega arith) (omega (arith, less)), short.at.2)
+    by false test = grind (arith, start, nat_tests, around)
 
   add_up : (v w a b c : ℕ) → IsLeast letters v a → IsLeast letters w b → IsLeast letters (v + w) c → a + b ≤ c
   add_up v w a b c one other both =
@@ -57,10 +48,7 @@ module _ (letters : List Letter) where
       let start : ℕ = there.0 in
       let first = units_between letters start v in
       let second = units_between letters (start + v) w in
-      let whole = units_between letters start (v + w) in
-      let end : start + v + w ≡ start + (v + w) = omega arith in
-      let at_end : before letters (start + v + w) ≡ before letters (start + (v + w)) = ap (before letters) end in
-      omega (arith, one.below start (omega (arith, there.1)), other.below (start + v) (omega (arith, there.1)), first, second, whole, at_end, there.2)
+      grind (arith, units_between)
 
 pub grows : LeastGrows
 grows = record {

@@ -1,7 +1,7 @@
 -- The units of stretches, and the least of those of one length.
-use Rattle.std.proofs.Common.{◌≡◌, ◌∙◌, ℕ, zero, suc, ◌+◌, ◌<◌, ◌≤◌, ◌==◌, min, nat_lt, Bool, true, false, if◌then◌else◌, Some, None, List, [], ◌∷◌, drop, length, map, take, ap, sym, refl, subst, arith}
+use Rattle.std.proofs.Common.{◌≡◌, ◌∙◌, ℕ, zero, suc, ◌+◌, ◌<◌, ◌≤◌, min, nat_lt, Bool, true, false, Some, None, List, [], ◌∷◌, drop, length, take, ap, sym, refl, subst, arith}
 use Rattle.std.proofs.{lemmas.List.{length-take, take_all}, lemmas.Bool.Decides.nat_tests}
-use Rattle.mh_model.specs.Trace.{Letter, M, C, mutator_count, stretches, lesser, least_of, least_mutator}
+use Rattle.mh_model.specs.Trace.{Letter, M, C, mutator_count, lesser, least_mutator}
 use Rattle.mh_run_laws.specs.{WindowLaws.LeastIsOfStretches, Windows.{IsLeast, before, units_in}}
 
 -- Units ------------------------------------------------------------------------------------------
@@ -33,17 +33,11 @@ units_between (letter ∷ letters) (suc start) window =
 
 too_long : (window : ℕ) (letters : List Letter) → length letters < window → least_mutator window letters ≡ None
 too_long zero letters long = absurd (omega (arith, long))
-too_long (suc window) [] long =
-    let test : (suc window == 0) ≡ false = grind (arith, nat_tests) in
-    ap (λ b. least_of (map mutator_count (if b then [] ∷ [] else []))) test
-too_long (suc window) (letter ∷ letters) long =
-    let test : nat_lt (suc (length letters)) (suc window) ≡ true = grind (arith, nat_tests) in
-    ap (λ b. least_of (map mutator_count (if b then [] else take (suc window) (letter ∷ letters) ∷ stretches (suc window) letters))) test
+too_long (suc window) [] long = grind (arith, nat_tests)
+too_long (suc window) (letter ∷ letters) long = grind (arith, nat_tests)
 
 first_or_later : (window : ℕ) (letter : Letter) (letters : List Letter) → window ≤ suc (length letters) → least_mutator window (letter ∷ letters) ≡ Some (lesser (mutator_count (take window (letter ∷ letters))) (least_mutator window letters))
-first_or_later window letter letters short =
-    let test : nat_lt (suc (length letters)) window ≡ false = grind (arith, nat_tests) in
-    ap (λ b. least_of (map mutator_count (if b then [] else take window (letter ∷ letters) ∷ stretches window letters))) test
+first_or_later window letter letters short = grind (arith, nat_tests)
 
 -- a window that isn't longer than the trace has a least
 pub record HasLeast (letters : List Letter) (window : ℕ) : Type 0 where
@@ -82,9 +76,7 @@ one_more letter letters window room has = record {
       let less : has.least < first = grind (arith, nat_tests) in
       let there = has.is.at in
       (suc there.0, omega (arith, there.1), there.2 ∙ omega (arith, less))
-  at false test =
-      let more : first ≤ has.least = grind (arith, nat_tests) in
-      (0, omega (arith, room), omega (arith, more))
+  at false test = grind (arith, first, nat_tests)
 
 pub has_least : (letters : List Letter) (window : ℕ) → window ≤ length letters → HasLeast letters window
 has_least [] zero room = record { least = 0; some = refl; is = record { below = λ start inside. omega arith; at = (0, omega arith, refl) } }
@@ -103,16 +95,11 @@ no_longer letters window least is = by (nat_lt (length letters) window) refl whe
 pub least_at : (letters : List Letter) (window least : ℕ) → least_mutator window letters ≡ Some least → IsLeast letters window least
 least_at letters window least is =
     let has = has_least letters window (no_longer letters window least is) in
-    let both : Some has.least ≡ Some least = sym has.some ∙ is in
-    let same : has.least ≡ least = cc in
-    subst (IsLeast letters window) same has.is
+    grind (arith, least, is)
 
 -- there is but one least
 only_one : (letters : List Letter) (window a b : ℕ) → IsLeast letters window a → IsLeast letters window b → a ≡ b
-only_one letters window a b one other =
-    let here = one.at in
-    let there = other.at in
-    omega (arith, one.below there.0 there.1, there.2, other.below here.0 here.1, here.2)
+only_one letters window a b one other = grind arith
 
 pub stretches_have_least : LeastIsOfStretches
 stretches_have_least = record {

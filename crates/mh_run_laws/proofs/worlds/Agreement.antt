@@ -42,10 +42,6 @@ module _ (view world : World) (agrees : Agrees view world) where
   slot_at-same : (slot : ℕ) → slot_at view slot ≡ slot_at world slot
   slot_at-same slot = ap (λ slots. get_or slots slot None) agrees.slots
 
-  -- an object that is reached is the same in both
-  object_at-reached : (birth : ℕ) → Reachable world birth → object_at view birth ≡ object_at world birth
-  object_at-reached birth reached = grind arith
-
   object_in-same : (slot : ℕ) → object_in view slot ≡ object_in world slot
   object_in-same slot = grind arith
 
@@ -178,9 +174,7 @@ module _ (view world : World) (agrees : Agrees view world) where
   effect-agrees : (who : ℕ) (command : Command) → Agrees (effect view who command).state (effect world who command).state
   effect-agrees who (Command.New slot references numbers) = search (arith, with_object-agrees, no_references)
   effect-agrees who (Command.Get slot source field) = with_slot-agrees view world agrees (own_slot who slot) _ _ (ap (λ o. reference_of o field) (object_in-same view world agrees (own_slot who source))) (reference-reached (own_slot who source) field)
-  effect-agrees who (Command.Put slot field value) =
-      let same = slot_at-same view world agrees (own_slot who value) in
-      with_change-agrees view world agrees (own_slot who slot) (with_reference field (slot_at view (own_slot who value))) (with_reference field (slot_at world (own_slot who value))) (λ object. ap (λ n. with_reference field n object) same) (put-keeps (own_slot who value) field)
+  effect-agrees who (Command.Put slot field value) = grind (arith, slot_at-same, with_change-agrees, put-keeps)
   effect-agrees who (Command.Copy slot source) = search (arith, with_slot-agrees, slot_at-same, slot-reached)
   effect-agrees who (Command.Clear slot) = with_slot-agrees view world agrees (own_slot who slot) None None refl (λ birth e. absurd (none-some birth e))
   effect-agrees who (Command.Write slot index number) = grind (arith, with_change-agrees)

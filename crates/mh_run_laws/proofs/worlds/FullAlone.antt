@@ -47,11 +47,6 @@ new_tests many ended bad large full = (many, TooManySessions) ∷ (ended, Ended)
 refused-other : (refused : Refusal) (heap : HeapState) (answer : Answer HeapState) → is_heap_full (Reply.Refused refused) ≡ false → ¬ ((unless_refused (Some refused) heap answer).reply ≡ Reply.Refused HeapFull)
 refused-other refused heap answer plain e = false≢true (sym plain ∙ ap is_heap_full e)
 
--- no test but the last refuses what a full heap refuses
-last-alone : (many ended bad large full : Bool) (heap : HeapState) (answer : Answer HeapState) → (unless_refused (first_refusal (new_tests many ended bad large full)) heap answer).reply ≡ Reply.Refused HeapFull
-    → first_refusal (new_tests many ended bad large false) ≡ None
-last-alone many ended bad large full heap answer e = grind arith
-
 -- what a full heap refuses, no other test refuses
 pub full-alone : (heap : HeapState) (who slot references numbers : ℕ) → (mutator_step heap who (Command.New slot references numbers)).reply ≡ Reply.Refused HeapFull
     → refusal (record (heap_sight heap) { is_full = never_full }) who (Command.New slot references numbers) ≡ None

@@ -1,25 +1,14 @@
 -- A heap that may be full, beside the ever-growing world: its replies but a full heap are the world's, and it goes on agreeing with the world that wasn't given what was answered so.
-use Rattle.std.proofs.Common.{◌≡◌, ℕ, Bool, true, false, not, ◌&&◌, if◌then◌else◌, ◌⊎◌, List, [], ◌∷◌, ◌++◌, Option, Some, get_or, nat_le, sym, ap, ◌∙◌, arith}
+use Rattle.std.proofs.Common.{◌≡◌, ℕ, Bool, true, false, not, ◌&&◌, if◌then◌else◌, ◌⊎◌, List, [], ◌∷◌, Option, Some, get_or, nat_le, sym, ap, ◌∙◌, arith}
 use Rattle.std.proofs.{lemmas.Bool.{and_parts, not-true}, lemmas.Option.none-some}
 use Rattle.std.specs.List.{list_all}
 use Rattle.mh_model.specs.{declared.command.Command.Command, declared.command.Event.Event, declared.shape.Shape.Shape}
 use Rattle.mh_model.specs.declared.reply.Refusal.{Refusal}
 use Rattle.mh_model.specs.declared.reply.Refusal.TheVariants.{HeapFull, Ended, TooManySessions}
 use Rattle.mh_model.specs.declared.reply.Reply.{Reply}
-use Rattle.mh_model.specs.World.{World, first_refusal, tests, refusal, yes_or_no, shape_reply, effect, says, sight_of, heap_step, never_full, world_step}
+use Rattle.mh_model.specs.World.{World, first_refusal, tests, yes_or_no, shape_reply, effect, says, sight_of, heap_step, never_full, world_step}
 use Rattle.mh_model.specs.{Paths.Agrees, Snapshot.{is_heap_full, world_beside_event}}
 use Rattle.mh_run_laws.proofs.worlds.Agreement.{heap_step-agrees, heap_step-reply}
-
--- of tests with a last one: the last refuses, or it might as well not hold
-first_refusal-last : (before : List (Bool × Refusal)) (holds : Bool) (last : Refusal)
-    → (first_refusal (before ++ (holds, last) ∷ []) ≡ Some last) ⊎ (first_refusal (before ++ (holds, last) ∷ []) ≡ first_refusal (before ++ (false, last) ∷ []))
-first_refusal-last [] holds last = grind arith
-first_refusal-last (test ∷ before) holds last = grind (arith, first_refusal-last before holds last)
-
--- a command is refused by a full heap, or as it is if there is always a place
-refusal-full : (is_full : ℕ → ℕ → Bool) (world : World) (who : ℕ) (command : Command)
-    → (refusal (sight_of is_full world) who command ≡ Some HeapFull) ⊎ (refusal (sight_of is_full world) who command ≡ refusal (sight_of never_full world) who command)
-refusal-full is_full world who asked = grind arith
 
 heap_step-full : (is_full : ℕ → ℕ → Bool) (world : World) (who : ℕ) (command : Command)
     → (heap_step is_full world who command ≡ says (Reply.Refused HeapFull) world) ⊎ (heap_step is_full world who command ≡ world_step world who command)

@@ -47,7 +47,4 @@ with_draw-kept bound claim seat inside goes rule = record {
 }
   where
     last : (other : ℕ) → OnlyLastPast bound (get_or (set claim.drawn seat (get_or claim.drawn seat [] ++ claim.word ∷ [])) other [])
-    last other = elim (cases_eq other seat) [
-      | inl same ↦ rw (same, get_or-set_same claim.drawn seat (get_or claim.drawn seat [] ++ claim.word ∷ []) [] inside) (only_last_past-append bound claim.word (get_or claim.drawn seat []) (below-has_ended bound (get_or claim.drawn seat []) goes))
-      | inr apart ↦ rw (get_or-set_other claim.drawn seat other (get_or claim.drawn seat [] ++ claim.word ∷ []) [] apart) (rule.only_last_past other)
-    ]
+    last other = grind (arith, cases_eq, inl, get_or-set_same, only_last_past-append, below-has_ended, inr, get_or-set_other)

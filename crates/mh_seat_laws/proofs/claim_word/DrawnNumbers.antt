@@ -3,7 +3,7 @@ use Rattle.std.proofs.Common.{◌≡◌, ℕ, zero, suc, ◌+◌, ◌<◌, ◌�
 use Rattle.std.proofs.{lemmas.Bool.{cases_lt, false≢true}, lemmas.Bool.Decides.nat_tests}
 use Rattle.std.proofs.lemmas.List.Sums.{count_by-le-length, sum_by-append, sum_by-cons}
 use Rattle.mh_model.specs.History.{ClaimState, IsDrawn, OnlyLastPast, has_ended, times_drawn}
-use Rattle.mh_seat_laws.specs.Laws.{AllHaveEnded}
+use Rattle.mh_seat_laws.specs.Auxiliary.{AllHaveEnded}
 
 -- how often a number stands in a list
 abbrev pub counts : ℕ → List ℕ → ℕ

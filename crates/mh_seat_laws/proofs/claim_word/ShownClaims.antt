@@ -8,7 +8,7 @@ use lib.ListN.{get_elem?}
 use Rattle.atomic_table.specs.Table.{State}
 use Rattle.mh_model.specs.History.{OnlyLastPast, IsDrawn}
 use Rattle.mh_seat_laws.specs.Weights.{weigh, weigh_lists, weigh_below, total}
-use Rattle.mh_seat_laws.specs.ClaimWord.{AllRunOut, Lists, IsClaimed, claim_of}
+use Rattle.mh_seat_laws.specs.{ClaimWord.{AllRunOut, Lists, IsClaimed}, Auxiliary.claim_of}
 
 sum_is : (h : ℕ → ℕ) (l : List ℕ) → weigh h l ≡ sum_by h l
 sum_is h [] = refl

@@ -1,5 +1,5 @@
 -- Each event has one of the nine seats as its owner, so logs of what each of these owns of a history merge to it.
-use Rattle.std.proofs.Common.{◌≡◌, ℕ, ◌<◌, ◌≤◌, Bool, cond, nat_lt, if◌then◌else◌, inl, inr, List, [], ◌∷◌, length, get_or, set, refl, ap, ◌∙◌, sym, arith}
+use Rattle.std.proofs.Common.{◌≡◌, ℕ, ◌<◌, ◌≤◌, Bool, cond, nat_lt, if◌then◌else◌, inl, inr, List, [], ◌∷◌, length, get_or, set, refl, ap, ◌∙◌, arith}
 use Rattle.std.proofs.{lemmas.Bool.{cases_eq, eq-eqb, ne_eqb}, lemmas.Bool.Decides.nat_tests}
 use Rattle.std.proofs.lemmas.List.{get_or-set_same, get_or-set_other, length-set}
 use Rattle.mh_model.specs.{declared.command.Event.Event, declared.history.Entry.Entry}
@@ -17,12 +17,7 @@ owned_below (Event.Control control) = omega arith
 module _ {E : Type 0} (owner : E → ℕ) where
   -- Without its first entry a history has the same logs, but for the owner's, which lacks that entry
   logs_after : (entry : E) (history : List E) (logs : List (List E)) → owner entry < length logs → AreLogs owner (entry ∷ history) logs → AreLogs owner history (set logs (owner entry) (owned_by owner (owner entry) history))
-  logs_after entry history logs within are seat =
-      let rest : List E = owned_by owner (owner entry) history in
-      elim (cases_eq seat (owner entry)) [
-        | inl same ↦ rw same (get_or-set_same logs (owner entry) rest [] within)
-        | inr apart ↦ get_or-set_other logs (owner entry) seat rest [] apart ∙ (are seat ∙ ap (λ (b : Bool). cond b (entry ∷ owned_by owner seat history) (owned_by owner seat history)) (ne_eqb (owner entry) seat (λ e. apart (sym e))))
-      ]
+  logs_after entry history logs within are seat = grind (arith, cases_eq, inl, get_or-set_same, inr, get_or-set_other, cond, ne_eqb)
 
   -- Logs of all owners merge to the history
   pub all-merge : (history : List E) (logs : List (List E)) → ((entry : E) → owner entry < length logs) → AreLogs owner history logs → IsMerge logs history

@@ -63,9 +63,7 @@ module _ {E : Type 0} (owner : E → ℕ) where
       ap (λ (b : Bool). cond b (e ∷ owned_by owner k es) (owned_by owner k es)) no ∙ none_owned seats k es le (λ i d lt. all (suc i) d (omega arith))
 
   are_logs : (seats : ℕ) (h : List E) → AllOwned owner seats h → AreLogs owner h (dealt h 0 seats)
-  are_logs seats h all k = dite (dec_lt k seats)
-      (λ lt. dealt_at h 0 seats k lt ∙ ap (λ (i : ℕ). owned_by owner i h) (omega arith))
-      (λ no. dealt_past h 0 seats k (omega arith) ∙ sym (none_owned seats k h (omega arith) all))
+  are_logs seats h all k = grind (arith, dealt_at, dealt_past, none_owned)
 
   stand : (h : List E) (logs : List (List E)) → AreLogs owner h logs → (ls : Logs E) → Fits owner h ls → StandIn logs ls
   stand h logs are [] fits = tt

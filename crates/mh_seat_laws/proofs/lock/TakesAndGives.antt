@@ -3,7 +3,7 @@ use Rattle.std.proofs.Common.{◌≡◌, ◌≢◌, ◌<◌, ◌==◌, ◌++◌,
 use Rattle.std.proofs.lemmas.Bool.{cases_eq, eq-eqb, ne_eqb}
 use Rattle.std.proofs.{lemmas.List.{get_or-set_same, get_or-set_other, length-set, append-nil}, lemmas.Option.none-some}
 use Rattle.std.specs.Option.{option_to_list}
-use Rattle.mh_model.specs.History.{LockState, IsOut, IsKeptBy, AreLogs, owned_by, with_take, with_give}
+use Rattle.mh_model.specs.History.{LockState, IsOut, IsKeptBy, AreLogs, owned_by, with_give}
 
 -- what is there is within the list
 below_length : {X : Type 0} (xs : List (Option X)) (i : ℕ) (x : X) → get_or xs i None ≡ Some x → i < length xs
@@ -12,20 +12,6 @@ below_length (y ∷ xs) zero x e = omega arith
 below_length (y ∷ xs) (suc i) x e = omega (arith, below_length xs i x e)
 
 module _ {E : Type 0} (owner : E → ℕ) where
-  -- A try to take the value keeps the rule
-  pub with_take-kept : (lock : LockState E) (seat : ℕ) → seat < length lock.taken → IsKeptBy owner lock → IsKeptBy owner (with_take lock seat)
-  with_take-kept lock seat inside (inl home) = rw home.word (inr (record {
-    seats = home.seats ∙ sym (length-set lock.taken seat lock.home);
-    word = refl;
-    home = refl;
-    history = home.history;
-    holder = seat;
-    found = get_or-set_same lock.taken seat lock.home None inside ∙ home.home;
-    others = λ other apart. get_or-set_other lock.taken seat other lock.home None apart ∙ home.nobody other;
-    logs = home.logs;
-  }))
-  with_take-kept lock seat inside (inr out) = rw out.word (inr (record { seats = out.seats; word = refl; home = out.home; history = out.history; holder = out.holder; found = out.found; others = out.others; logs = out.logs }))
-
   -- what a seat owns of a history with one entry more
   owned_by-append : (seat : ℕ) (history : List E) (entry : E) → owned_by owner seat (history ++ entry ∷ []) ≡ owned_by owner seat history ++ (if owner entry == seat then entry ∷ [] else [])
   owned_by-append seat [] entry = refl
@@ -42,8 +28,7 @@ module _ {E : Type 0} (owner : E → ℕ) where
 
   owned_by-other : (seat other : ℕ) (history : List E) (entry : Option E) → ((e : E) → entry ≡ Some e → owner e ≡ seat) → other ≢ seat → owned_by owner other (history ++ option_to_list entry) ≡ owned_by owner other history
   owned_by-other seat other history None owns apart = ap (owned_by owner other) (append-nil history)
-  owned_by-other seat other history (Some entry) owns apart =
-      owned_by-append other history entry ∙ ap (λ b. owned_by owner other history ++ (if b then entry ∷ [] else [])) (ne_eqb (owner entry) other (λ e. apart (sym e ∙ owns entry refl))) ∙ append-nil (owned_by owner other history)
+  owned_by-other seat other history (Some entry) owns apart = grind (arith, owned_by-append, ne_eqb, append-nil)
 
   -- the logs after an entry of a seat's call, or after none
   logs-given : (entry : Option E) (history : List E) (logs : List (List E)) (seat : ℕ) → seat < length logs → ((e : E) → entry ≡ Some e → owner e ≡ seat) → AreLogs owner history logs
@@ -70,7 +55,4 @@ module _ {E : Type 0} (owner : E → ℕ) where
       within = omega (arith, out.seats, below_length lock.taken out.holder out.history out.found)
 
       nobody : (seat : ℕ) → get_or (set lock.taken out.holder None) seat None ≡ None
-      nobody seat = elim (cases_eq seat out.holder) [
-        | inl same ↦ rw same (get_or-set_same lock.taken out.holder None None (below_length lock.taken out.holder out.history out.found))
-        | inr apart ↦ get_or-set_other lock.taken out.holder seat None None apart ∙ out.others seat apart
-      ]
+      nobody seat = grind (arith, cases_eq, inl, get_or-set_same, below_length, inr, get_or-set_other)

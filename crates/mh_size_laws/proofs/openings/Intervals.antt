@@ -125,13 +125,6 @@ since-likewise config asked start old new same since = record {
 pub since-more : (config : Config) (asked more : ℕ → ℕ) (start : Table Block) (machine : Machine) → ((k : ℕ) → asked k ≤ more k) → IsSince config asked start machine → IsSince config more start machine
 since-more config asked more start machine larger since = record { config_is = since.config_is; slots = since.slots; opened = opened-more class_sizes asked more start machine.heap.collector.table larger since.opened }
 
--- Counts of quanta -------------------------------------------------------------------------------
-
-module _ (count : ℕ) where
-  command-counts : (machine : Machine) (who : ℕ) (command : Command) → count ≤ machine.trace.quanta → count ≤ (command_step machine who command).state.trace.quanta
-  unfolding command_step
-  command-counts machine who command has = has
-
 -- a machine is so since its own moment
 pub since-first : (config : Config) (events : List Event) → IsSince config (λ k. 0) (machine_after (first_machine config) events).heap.collector.table (machine_after (first_machine config) events)
 since-first config events = record {

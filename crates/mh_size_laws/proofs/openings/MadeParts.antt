@@ -9,7 +9,7 @@ use Rattle.mh_model.specs.Classes.{Part, class_sizes, class_of, part_words, slot
 use Rattle.mh_model.specs.Pages.{Page, Table, page_number, slot_number, page_at, free_pages, is_dense, is_sparse, open_slot, fresh_slot, least_place, with_taken, HaveTheirSlots}
 use Rattle.mh_model.specs.Table.{Block, MadeParts, new_block, made_parts}
 use Rattle.mh_model.specs.Openings.{is_of_class, class_parts, pages_for}
-use Rattle.mh_table_laws.specs.Placing.{IsFound}
+use Rattle.mh_table_laws.specs.Auxiliary.{IsFound}
 use Rattle.mh_table_laws.proofs.placing.Places.{shaped-slots, open_slot-is, least_place-least}
 use Rattle.mh_table_laws.proofs.tables.PageSlots.{slots_in-class_size, class_of-class_size}
 use Rattle.mh_laws.proofs.rooms.Rooms.{dense_room, dense_room-none, TakesRoom, taken-in_use, OpensPage, taken-fresh}
@@ -126,9 +126,7 @@ module _ (sizes : List ℕ) where
       new = with_taken now size place block
 
       in_use : (test : Page Block → Bool) → ((page : Page Block) → test page ≡ true → page.class_size ≡ size) → IsFound (open_slot test) now place → IsOpened sizes (λ k. asked k + one_of size k) start new
-      in_use test of_class found =
-          let there = open_slot-is test (page_at now (page_number place)) (slot_number place) found.gives in
-          opened-in_use asked start now new size (taken-in_use now size place block there.page there.in_use (of_class there.page there.passes)) is
+      in_use test of_class found = grind (arith, open_slot-is, opened-in_use, new, taken-in_use)
 
       fresh_page : (content : Option (Page Block)) → fresh_slot content ≡ Some (slot_number place) → content ≡ None
       fresh_page content gives = grind (arith, none-some)

@@ -176,8 +176,7 @@ module _ (config : Config) (quanta room less : ℕ) where
           ((before'.0, rest.0), (flagged, rest.1))
       go false is before' later' fewer' starts' goes =
           let on : IsEarly config next = record { fresh = next-fresh machine event early.fresh; stays = next-stays config machine event early.stays; none = omega (arith, ltb-false 0 next.heap.collector.cycle is) } in
-          let rest = goes on before'.1 later' fewer' starts' had.1 later_ends in
-          ((before'.0, rest.0), (flagged, rest.1))
+          grind (arith, later_ends, flagged)
 
 -- Room from the first cycle on suffices
 pub room-suffices : RoomInARowSuffices

@@ -36,8 +36,7 @@ pub free-place : {X : Type 0} (table : Table X) (size : ℕ) → least_dense_pla
 free-place table size none some =
     let (number, inside, free) = free-number table some in
     let (place, is) = from_some (least fresh_slot table) (least-some fresh_slot table number inside (ap (λ content. is_some (fresh_slot content)) free)) in
-    let found = least-is fresh_slot table (λ n slot h. (fresh-small table n slot h).1) place is in
-    grind (arith, fresh-small)
+    grind (arith, least-is, fresh-small, place)
 
 pub dense-place : {X : Type 0} (table : Table X) (size place : ℕ) → HaveTheirSlots table → least_dense_place table size ≡ Some place → HasPlace table size
 dense-place table size place slots found =

@@ -55,8 +55,7 @@ module _ (allowed : ℕ → ℕ → ℕ) (grows : Grows allowed) (most : ℕ) (c
   all-few size count row before later few is =
       let start : Machine = machine_after (first_machine config) before in
       let asked = keep.asked before (joined row) later is.whole size in
-      let had : units_in start (joined row) ≤ count * units = omega (arith, units-joined units row start is.short, mul-le-mul_right units few) in
-      omega (arith, asked, grows size (units_in start (joined row)) (count * units) had, asked-joined config size row)
+      grind (arith, joined, units-joined, mul-le-mul_right, asked-joined)
 
   -- so they open no more pages than the rate allows
   row-few : (count : ℕ) (row : List (List Event)) (before later : List Event) → length row ≤ count → IsRow before row later → sum (map (opens_at_most config) row) ≤ opens_at_rate allowed units count

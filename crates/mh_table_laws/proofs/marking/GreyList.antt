@@ -1,5 +1,5 @@
 -- The grey list: no place stands twice in it, each holds a marked block, and what marking still costs only falls.
-use Rattle.std.proofs.Common.{◌≡◌, ◌≢◌, ℕ, zero, suc, ◌+◌, ◌≤◌, ◌==◌, false, if◌then◌else◌, List, [], ◌∷◌, ◌++◌, length, set, replicate, Option, Some, None, option_map, unwrap_or, refl, sym, ap, ◌∙◌, subst, arith}
+use Rattle.std.proofs.Common.{◌≡◌, ◌≢◌, ℕ, zero, suc, ◌+◌, ◌≤◌, ◌==◌, false, if◌then◌else◌, List, [], ◌∷◌, ◌++◌, length, set, replicate, Option, Some, None, option_map, refl, sym, ap, ◌∙◌, subst, arith}
 use Rattle.std.proofs.{lemmas.Bool.{cases_eq, eq-eqb, ne_eqb}, lemmas.List.{length-set, length-append}}
 use Rattle.std.proofs.{lemmas.List.Sums.{sum_by-append, sum_by-cons, sum_by-set}, lemmas.Option.{none-some, same_Some}}
 use Rattle.std.specs.List.{AllByRecursion, IsDistinct, sum_by}
@@ -31,8 +31,7 @@ module _ (price : ℕ → ℕ) (cycle : ℕ) where
       let page : Page Block = page_for size (page_at table number) in
       let whole : table_weight price cycle (with_taken table size place block) + page_weight price cycle (page_at table number) ≡ table_weight price cycle table + sum_by (slot_weight price cycle) (set page.slots (slot_number place) (Some block)) = sum_by-set (page_weight price cycle) table number (Some (page_with (slot_number place) (Some block) page)) None free.inside in
       let part : sum_by (slot_weight price cycle) (set page.slots (slot_number place) (Some block)) + slot_weight price cycle (block_in (slot_number place) page) ≡ sum_by (slot_weight price cycle) page.slots + slot_weight price cycle (Some block) = sum_by-set (slot_weight price cycle) page.slots (slot_number place) (Some block) None free.within in
-      let empty : slot_weight price cycle (block_in (slot_number place) page) ≡ 0 = ap (slot_weight price cycle) (block_in-page_for (page_at table number) size (slot_number place) ∙ free.empty) in
-      omega (arith, whole, part, empty, weight-page_for size (page_at table number))
+      grind (arith, block_in-page_for, weight-page_for)
 
   pub weight-marked : (block : Block) → block.stamp ≡ cycle → slot_weight price cycle (Some block) ≡ 0
   weight-marked block e = rw (eq-eqb block.stamp cycle e) refl
@@ -133,10 +132,7 @@ module _ (table : Table Block) (place : ℕ) (old new : Block) (at : block_at ta
       lighter price =
           let none : slot_weight price cycle (Some new) ≡ 0 = weight-marked price cycle new stamps in
           let there : slot_weight price cycle (block_at table place) ≡ price (length old.references) = ap (slot_weight price cycle) at ∙ ap (λ b. if b then 0 else price (length old.references)) unmarked in
-          let added : grey_weight price after (grey ++ place ∷ []) ≡ grey_weight price after grey + grey_weight price after (place ∷ []) = sum_by-append (λ p. price (count_at after p)) grey (place ∷ []) in
-          let last : grey_weight price after (place ∷ []) ≡ price (count_at after place) = omega arith in
-          let one : price (count_at after place) ≡ price (length old.references) = ap price (count-rewritten place ∙ ap (λ b. length (unwrap_or (option_map (λ x. x.references) b) [])) at) in
-          omega (arith, none, there, added, last, one, weight-with_block price cycle table place (Some new) (block-slot table place old at), grey_weight-same price table after grey (all-of (λ p. count_at after p ≡ count_at table p) count-rewritten grey))
+          grind (arith, sum_by-append, count-rewritten, weight-with_block, block-slot, grey_weight-same, all-of)
 
 -- Shading and marking ----------------------------------------------------------------------------
 
@@ -195,9 +191,6 @@ mark_first-pays marking place grey is sound =
     }
 
 -- Cycle numbers ----------------------------------------------------------------------------------
-
-cycle-shade_block : (marking : Marking) (place : ℕ) (block : Option Block) → (shade_block marking place block).cycle ≡ marking.cycle
-cycle-shade_block marking place block = grind arith
 
 pub cycle-shade : (marking : Marking) (reference : Option ℕ) → (shade marking reference).cycle ≡ marking.cycle
 cycle-shade marking reference = grind arith

@@ -165,9 +165,7 @@ module _ (n : ℕ) (c : Collector) (h : IsSound n c) (p : ℕ) (z : Block) (plai
   a_middle tall i below =
       let (r, e, (y, plain_y, birth, part)) = h.spines p z 1 plain (has_children (omega (arith, tall))) i below in
       let of = part_at (resolve c.table r) y (suc i) plain_y birth (part ∙ omega arith) in
-      let own = own_count (omega (arith, tall)) in
-      let later = later_part s.references s.numbers i of.part of.at in
-      grind (arith, counts, sum_is)
+      grind (arith, own_count, later_part, counts, sum_is)
 
   abbrev spines_below : List Block
   spines_below = blocks_named c.table z.references
@@ -203,8 +201,7 @@ module _ (n : ℕ) (c : Collector) (h : IsSound n c) (p : ℕ) (z : Block) (plai
   leaf : (q : ℕ) (y : Block) (i : ℕ) → IsPlainAt c q y → y.birth ≡ z.birth → y.part ≡ 1 + middle_count size + i → (first_child (h.shapes y.birth) y.part ≡ None) × IsRun refs nums i y
   leaf q y i plain_y birth number =
       let of = part_at q y (suc (middle_count size + i)) plain_y birth (number ∙ omega arith) in
-      let later = later_part s.references s.numbers (middle_count size + i) of.part of.at in
-      grind (arith, references_is, numbers_is)
+      grind (arith, later_part, references_is, numbers_is)
 
   pub an_arraylet : is_spine z ≡ true → (i : ℕ) → i < run_count size → IsArraylet i
   an_arraylet spine i below = go (is_tall z) refl

@@ -5,7 +5,7 @@ use Rattle.std.proofs.lemmas.List.{length-set, length-replicate, length-map, len
 use Rattle.mh_model.specs.Classes.{Part, class_of, slots_in, part_words}
 use Rattle.mh_model.specs.Pages.{Page, Table, page_number, slot_number, page_at, block_at, least_place, page_with, page_for, with_taken, IsFreeFor}
 use Rattle.mh_model.specs.Table.{Block, Made, MadeParts, new_block, made_in_class, made_part, made_parts, with_block_change, words_of, linked_block, linked_parts, group_of, made_group}
-use Rattle.mh_table_laws.specs.NewObjects.{IsMade, AreMade, IsGroup}
+use Rattle.mh_table_laws.specs.Auxiliary.{IsMade, AreMade, IsGroup}
 use Rattle.mh_table_laws.proofs.{Lists.get_or-set_either, tables.PageSlots.{slots_in-class_size, class_of-class_size}}
 use Rattle.mh_table_laws.proofs.placing.Places.{IsShaped, block_at-with_block_same, block_at-with_block_other, least_place-free, block_at-with_taken_same, block_at-with_taken_other, block-slot}
 
@@ -41,7 +41,6 @@ one_made table birth stamp index part shaped made e = by_class (class_of (part_w
     by_place size is (Some p) found h =
         let (some, few) = slots_in-class_of (part_words part) size is in
         let free : IsFreeFor table size p = least_place-free table size shaped some p found in
-        let block : Block = new_block birth stamp index part in
         grind (arith, IsShaped, same_Some, block_at-with_taken_same, block_at-with_taken_other, with_taken-shaped)
 
     by_class : (size : Option ℕ) → class_of (part_words part) ≡ size → option_and_then (made_in_class table (new_block birth stamp index part)) size ≡ Some made → IsMade table birth stamp index part made × IsShaped made.table
@@ -51,9 +50,6 @@ one_made table birth stamp index part shaped made e = by_class (class_of (part_w
 -- One part is made at a place that was free for its class
 pub made_part-is : (table : Table Block) (birth stamp index : ℕ) (part : Part) → IsShaped table → (made : Made) → made_part table birth stamp index part ≡ Some made → IsMade table birth stamp index part made
 made_part-is table birth stamp index part shaped made e = (one_made table birth stamp index part shaped made e).0
-
-none_made : (table : Table Block) (birth stamp index : ℕ) → AreMade table birth stamp index [] (record { places = []; table = table })
-none_made table birth stamp index = grind arith
 
 some_made : (table : Table Block) (birth stamp index : ℕ) (part : Part) (parts : List Part) (first : Made) (rest : MadeParts) → IsMade table birth stamp index part first → AreMade first.table birth stamp (suc index) parts rest
     → AreMade table birth stamp index (part ∷ parts) (record { places = first.place ∷ rest.places; table = rest.table })

@@ -6,7 +6,7 @@ use Rattle.std.proofs.{lemmas.Option.{none-some, same_Some, slice_get_within}, l
 use Rattle.mh_model.specs.declared.shape.Shape.{Shape}
 use Rattle.mh_model.specs.Classes.{Part, class_of, part_words, tabulate, plain_part, middle_spine, arraylet, run_count, middle_count, child_count, spine_parts, parts}
 use Rattle.mh_model.specs.{declared.config.Rules.Rules, World.most_fields_under, Invariant.first_child}
-use Rattle.mh_table_laws.specs.NewObjects.{PartsFitTogether}
+use Rattle.mh_table_laws.specs.Auxiliary.{PartsFitTogether}
 use Rattle.mh_model.proofs.TabulateLemmas.{length-tabulate}
 
 -- Lists ------------------------------------------------------------------------------------------

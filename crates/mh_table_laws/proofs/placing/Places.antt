@@ -1,12 +1,12 @@
 -- Places: reading a table after a write, what the search for a place finds, and a place taken and given back.
-use Rattle.std.proofs.Common.{◌≡◌, ◌≢◌, ℕ, zero, suc, ◌+◌, ◌<◌, ◌≤◌, ◌==◌, Bool, true, false, not, if◌then◌else◌, List, [], ◌∷◌, length, get_or, set, Option, Some, None, is_some, is_none, option_map, option_and_then, IsSome, refl, sym, ap, ◌∙◌, subst, arith}
+use Rattle.std.proofs.Common.{◌≡◌, ◌≢◌, ℕ, zero, suc, ◌+◌, ◌<◌, ◌≤◌, Bool, true, false, if◌then◌else◌, List, [], ◌∷◌, length, get_or, set, Option, Some, None, is_some, is_none, option_map, option_and_then, IsSome, refl, sym, ap, ◌∙◌, subst, arith}
 use Rattle.std.proofs.lemmas.Bool.{cases_eq, false≢true, and_parts, not-true, eqb-true}
 use Rattle.std.proofs.lemmas.Option.{none-some, same_Some}
 use Rattle.std.proofs.lemmas.List.{get_or-set_same, get_or-set_other, set-get_or, set-set}
 use Rattle.std.specs.Option.{option_or}
 use Rattle.mh_model.specs.Classes.{slots_in}
 use Rattle.mh_model.specs.Pages.{Page, Table, page_number, slot_number, page_at, block_in, block_at, block_count, is_dense, is_sparse, empty_slot, open_slot, fresh_slot, first_place, least, least_dense_place, least_place, page_with, with_block, page_for, with_taken, with_released, HaveTheirSlots, IsFreeFor}
-use Rattle.mh_table_laws.specs.Placing.{IsFirstEmpty, IsFound, GivesNone, IsLeastOfItsTier}
+use Rattle.mh_table_laws.specs.Auxiliary.{IsFirstEmpty, IsFound, GivesNone, IsLeastOfItsTier}
 use Rattle.mh_table_laws.proofs.Lists.{from_some, below_length, set_back, none_at}
 use Rattle.mh_table_laws.proofs.tables.PageSlots.{slots_in-class_size}
 
@@ -144,8 +144,7 @@ module _ {X : Type 0} where
       → (page : Page X) × (page_at table (page_number place) ≡ Some page) × (page.class_size ≡ size) × (page.is_flagged ≡ false) × IsFirstEmpty page.slots (slot_number place)
   least_dense_place-page table size shaped place e =
       let there = open_slot-is (is_dense size) (page_at table (page_number place)) (slot_number place) (least_dense_place-is table size shaped place e).gives in
-      let (of_class, unflagged) = and_parts (there.page.class_size == size) (not there.page.is_flagged) there.passes in
-      (there.page, there.in_use, eqb-true there.page.class_size size of_class, not-true there.page.is_flagged unflagged, there.empty)
+      grind (arith, and_parts, eqb-true, not-true)
 
   -- All tiers ------------------------------------------------------------------------------------
 

@@ -13,7 +13,7 @@ use Rattle.mh_model.specs.{Invariant.IsSteady, Limits.root_slots, Mutator.{HeapS
 use Rattle.mh_laws.proofs.{costs.Quanta.{steps-stop, steps-go}, costs.QuantumStarts.begins}
 use Rattle.mh_laws.proofs.snapshots.SteadyStates.{collectors-steady}
 use Rattle.mh_tell_laws.specs.Picture.{Picture, picture_of, shaded_at, with_edge, drawn, drawn_all}
-use Rattle.mh_tell_laws.specs.Cycles.{phase_after_deed, phase_after_deeds, is_phase, units_in}
+use Rattle.mh_tell_laws.specs.{Cycles.{phase_after_deed, is_phase, units_in}, Auxiliary.phase_after_deeds}
 use Rattle.mh_tell_laws.proofs.picture.StepLemmas.{steps-tell}
 use Rattle.mh_tell_laws.proofs.cycles.Balances.{IsTurn, turns-enter, deeds-stop, deeds-go}
 use Rattle.mh_cycle.proofs.DeedLemmas.{units-step}

@@ -11,13 +11,13 @@ use Rattle.mh_model.specs.Table.{Block, Made, MadeParts, Position, new_block, ma
 use Rattle.mh_model.specs.Collector.{Collector, Marking, shade, marking_of, with_shade}
 use Rattle.mh_model.specs.Mutator.{HeapState, in_roots, in_roots_or_mark, before_field, with_root, with_roots_cleared, with_session_cleared, with_reference_stored, with_number_stored, root_at, field_of, number_field, new_group, with_born, heap_sight, heap_effect, mutator_step}
 use Rattle.mh_model.specs.Deeds.{made_deed, make_deeds, new_deeds, barrier_deeds, command_deeds}
-use Rattle.mh_table_laws.specs.{NewObjects.AreMade, TableMaps.table_map}
+use Rattle.mh_table_laws.specs.{Auxiliary.AreMade, TableMaps.table_map}
 use Rattle.mh_table_laws.proofs.{marking.GreyList.cycle-shade, objects.MadeGroups.{length-words_of, made_parts-are}}
 use Rattle.mh_table_laws.proofs.{objects.Parts.parts_fit, placing.Places.IsShaped}
 use Rattle.mh_table_laws.proofs.TableMapLemmas.{unseen, seen_alike, with_taken-table_map}
 use Rattle.mh_laws.proofs.commands.CommandAnswers.{new-done}
 use Rattle.mh_tell_laws.specs.Picture.{Picture, Drawn, drawn_of, picture_of, with_table, drawn, drawn_all}
-use Rattle.mh_tell_laws.specs.PictureLaws.{CommandsTellThePicture}
+use Rattle.mh_tell_laws.specs.Auxiliary.{CommandsTellThePicture}
 use Rattle.mh_tell_laws.proofs.picture.ShadingLemmas.{drawn_all-append, marking_picture, marked-picture, shade-case}
 use Rattle.mh_tell_laws.proofs.picture.MarkLemmas.{written-unseen}
 

@@ -6,7 +6,7 @@ use Rattle.mh_model.specs.Collector.{Collector, Spending, collector_step, step_c
 use Rattle.mh_model.specs.{Deeds.{step_deeds, deeds_of_steps, start_deeds, quantum_deeds}, Invariant.IsSteady}
 use Rattle.mh_laws.proofs.{costs.Quanta.{steps-stop, steps-go}, costs.QuantumStarts.begins}
 use Rattle.mh_laws.proofs.snapshots.SteadyStates.{collectors-steady}
-use Rattle.mh_tell_laws.specs.{Picture.{picture_of, drawn_all}, PictureLaws.QuantaTellThePicture}
+use Rattle.mh_tell_laws.specs.{Picture.{picture_of, drawn_all}, Auxiliary.QuantaTellThePicture}
 use Rattle.mh_tell_laws.proofs.picture.{ShadingLemmas.drawn_all-append, StepLemmas.steps-tell}
 
 -- steps stop, or one is taken

@@ -10,7 +10,7 @@ use Rattle.mh_table_laws.proofs.TableMapLemmas.{block_at-table_map, with_block-t
 use Rattle.mh_laws.proofs.moving.NextMove.{next_move-is}
 use Rattle.mh_table_laws.specs.TableMaps.{table_map}
 use Rattle.mh_tell_laws.specs.Picture.{Picture, drawn_of, picture_of, moved_drawn, drawn, drawn_all}
-use Rattle.mh_tell_laws.specs.PictureLaws.{StepsTellThePicture}
+use Rattle.mh_tell_laws.specs.Auxiliary.{StepsTellThePicture}
 use Rattle.mh_tell_laws.proofs.picture.ShadingLemmas.{drawn_all-append, marked-picture, shade-drawn}
 use Rattle.mh_tell_laws.proofs.picture.{MarkLemmas.mark-drawn, SweepLemmas.sweep-drawn}
 

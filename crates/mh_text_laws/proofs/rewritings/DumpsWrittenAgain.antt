@@ -54,9 +54,7 @@ placed_is mark made each word i h =
 item_is : (word : Text) (i : DumpItem) → placed_of word ≡ Some i → IsItem (word ∷ []) i
 item_is word i h = by (placed_by 61 block word) refl h where
   by : (first : Option DumpItem) → placed_by 61 block word ≡ first → option_or first (placed_by 62 forwarder word) ≡ Some i → IsItem (word ∷ []) i
-  by (Some other) is k =
-      let same : other ≡ i = cc in
-      same_of item_words item_passes (word ∷ []) other i same (placed_is 61 block (λ slot a b. (refl, refl)) word other is)
+  by (Some other) is k = grind (arith, same_of, placed_is, block)
   by None is k = placed_is 62 forwarder (λ slot a b. (refl, refl)) word i k
 
 -- Items ------------------------------------------------------------------------------------------
@@ -88,8 +86,7 @@ with_item_is (Some i) here words items h item later =
     let found = mapped (λ more. i ∷ more) (items_from Ready words) items h in
     let one = item i refl in
     let more = later Ready found.from found.is refl in
-    let written : item_words i ++ flat_map item_words found.from ≡ here ++ words = rw (one.0, more.0) refl in
-    same_of (flat_map item_words) items_in_range (here ++ words) (i ∷ found.from) items found.same (written, and_from _ _ one.1 more.1)
+    grind (arith, same_of, and_from)
 
 first_word_is : (word : Text) (words : List Text) (items : List DumpItem) (page : Option ℕ) → tagged 80 word ≡ page → AreLater words
     → elim page as (λ _. Option (List DumpItem)) [ Some page ↦ items_from (HasPage page) words | None ↦ with_item (placed_of word) (items_from Ready words) ] ≡ Some items

@@ -4,7 +4,7 @@ use Rattle.std.proofs.lemmas.Bool.{and_from}
 use Rattle.mh_model.specs.{declared.command.Event.Event, declared.reply.Reply.Reply, declared.history.Entry.Entry}
 use Rattle.mh_model.specs.{Bytes.{Text, joined, words, is_text, numbers}, Forms.{command_of, control_of}}
 use Rattle.mh_model.specs.{declared.history.Version.Version, declared.history.Version.TheVariants.Two}
-use Rattle.mh_model.specs.Replies.{reply_words, reply_of, are_u64}
+use Rattle.mh_model.specs.Replies.{reply_of, are_u64}
 use Rattle.mh_model.specs.HistoryTexts.{event_words, is_event, event_of, session_of, entry_words, is_entry, entry_by, entry_of, measured_words, is_measured, measured_with, measured_by, measured_of, Halves, halves_at}
 use Rattle.mh_model.specs.declared.history.Measured.{Measured}
 use Rattle.mh_text_laws.proofs.rewritings.NumbersWrittenAgain.{mapped, chained, within_is, numbers_are}
@@ -31,8 +31,7 @@ control_event_is version word words e is h =
     let found = mapped (λ control. Event.Control control) (control_of version words) e h in
     let known = control_is version words found.from found.is in
     let star : codes "*" ≡ word = sym (text_is word (codes "*") is) in
-    let written : event_words (Event.Control found.from) ≡ word ∷ words = rw (known.0, star) refl in
-    same_of event_words (is_event version) (word ∷ words) (Event.Control found.from) e found.same (written, known.1)
+    grind (arith, same_of)
 
 -- a command, after the word of its session
 session_event_is : (version : Version) (word : Text) (words : List Text) (e : Event)
@@ -41,10 +40,7 @@ session_event_is : (version : Version) (word : Text) (words : List Text) (e : Ev
 session_event_is version word words e h =
     let who = chained (λ who. option_map (λ command. Event.Session who command) (command_of words)) (session_of word) e h in
     let found = mapped (λ command. Event.Session who.from command) (command_of words) e who.then in
-    let one = session_is word who.from who.is in
-    let known = command_is words found.from found.is in
-    let written : event_words (Event.Session who.from found.from) ≡ word ∷ words = rw (one.0, known.0) refl in
-    same_of event_words (is_event version) (word ∷ words) (Event.Session who.from found.from) e found.same (written, and_from _ _ one.1 known.1)
+    grind (arith, session_is, command_is, same_of, and_from)
 
 pub event_is : (version : Version) (words : List Text) (e : Event) → event_of version words ≡ Some e → IsOf event_words (is_event version) words e
 event_is version [] e h = cc
@@ -71,9 +67,7 @@ halves_are mark (word ∷ words) halves h = by (is_text word mark) refl (halves_
       let same : made ≡ halves = cc in
       let here : mark ≡ word = sym (text_is word mark is) in
       ap (λ (found : Halves). found.before ++ mark ∷ found.after) (sym same) ∙ ap (λ (w : Text). w ∷ words) here
-  by false is later k =
-      let found = mapped (with_before word) (halves_at mark words) halves k in
-      ap (λ (found : Halves). found.before ++ mark ∷ found.after) (sym found.same) ∙ ap (λ (ws : List Text). word ∷ ws) (later found.from found.is)
+  by false is later k = grind (arith, mapped)
 
 abbrev entry : Event → Reply → Entry
 entry event reply = record { event = event; reply = reply }
@@ -85,8 +79,7 @@ entry_by_is version halves e h =
     let re = mapped (entry ev.from) (reply_of version halves.after) e ev.then in
     let event_known = event_is version halves.before ev.from ev.is in
     let reply_known = reply_is version halves.after re.from re.is in
-    let written : event_words ev.from ++ codes "=" ∷ reply_words re.from ≡ halves.before ++ codes "=" ∷ halves.after = rw (event_known.0, reply_known.0) refl in
-    same_of entry_words (is_entry version) (halves.before ++ codes "=" ∷ halves.after) (entry ev.from re.from) e re.same (written, and_from _ _ event_known.1 reply_known.1)
+    grind (arith, same_of, and_from)
 
 entry_is : (version : Version) (words : List Text) (e : Entry) → entry_of version words ≡ Some e → IsOf entry_words (is_entry version) words e
 entry_is version words e h =

@@ -1,5 +1,5 @@
 -- Words that are read as numbers are what is written of these.
-use Rattle.std.proofs.Common.{◌≡◌, ◌∙◌, ℕ, suc, ◌<◌, ◌^◌, nat_lt, ◌&&◌, Bool, true, Option, Some, option_map, option_and_then, List, [], ◌∷◌, length, get_or, map, ap, sym, refl, decimal, arith}
+use Rattle.std.proofs.Common.{◌≡◌, ◌∙◌, ℕ, suc, ◌<◌, ◌^◌, nat_lt, ◌&&◌, Bool, true, Option, Some, option_map, option_and_then, List, [], ◌∷◌, length, get_or, map, ap, sym, decimal, arith}
 use Rattle.std.proofs.{lemmas.Bool.{and_parts, and_from, not-true, eqb-false, ltb-true}, lemmas.List.length-map}
 use Rattle.std.proofs.{lemmas.Option.{cond_some, option_and_then_some}, lemmas.Fmt.decimal-digits_value}
 use Rattle.std.specs.List.{list_all}
@@ -57,8 +57,7 @@ numbers_are (word ∷ words) ns h =
     let later = mapped (λ ms. first.from ∷ ms) (numbers words) ns first.then in
     let one = number_is word first.from first.is in
     let more = numbers_are words later.from later.is in
-    let written : map decimal (first.from ∷ later.from) ≡ word ∷ words = rw (one.0, more.0) refl in
-    (ap (map decimal) (sym later.same) ∙ written, ap are_u64 (sym later.same) ∙ and_from _ _ one.1 more.1)
+    grind (arith, one, and_from)
 
 -- the numbers of a form, which words are
 pub record AreNumbers {X : Type 0} (bounds : List ℕ) (made : List ℕ → X) (words : List Text) (x : X) : Type 0 where

@@ -1,5 +1,5 @@
 -- Words that are a reply are what is written of it, and it is well formed.
-use Rattle.std.proofs.Common.{option_to_list, ◌≡◌, ◌∙◌, ℕ, cond, Bool, true, false, Option, Some, None, option_map, option_and_then, List, [], ◌∷◌, map, ap, sym, subst, refl, codes, decimal, arith}
+use Rattle.std.proofs.Common.{option_to_list, ◌≡◌, ◌∙◌, ℕ, cond, Bool, true, false, Option, Some, None, option_map, option_and_then, List, [], ◌∷◌, map, ap, sym, refl, codes, decimal, arith}
 use Rattle.std.proofs.lemmas.Bool.{and_from}
 use Rattle.mh_model.specs.{declared.reply.Reply.Reply, declared.reply.Refusal.Refusal, declared.cycle.Phase.Phase}
 use Rattle.mh_model.specs.Bytes.{Text, is_text, number, numbers}
@@ -26,13 +26,8 @@ IsOptional word n = (optional_word n ≡ word) × (are_u64 (option_to_list n) �
 optional_is : (word : Text) (n : Option ℕ) → optional_of word ≡ Some n → IsOptional word n
 optional_is word n h = by (number word) (is_text word (codes "none")) refl refl h where
   by : (found : Option ℕ) (none : Bool) → number word ≡ found → is_text word (codes "none") ≡ none → optional_by found none ≡ Some n → IsOptional word n
-  by (Some m) none is other h =
-      let same : Some m ≡ n = cc in
-      let known = number_is word m is in
-      subst (IsOptional word) same (known.0, and_from _ _ known.1 refl)
-  by None true is other h =
-      let same : None ≡ n = cc in
-      subst (IsOptional word) same (sym (text_is word (codes "none") other), refl)
+  by (Some m) none is other h = grind (arith, number_is, and_from)
+  by None true is other h = grind (arith, text_is)
   by None false is other h = cc
 
 -- Values between keys ----------------------------------------------------------------------------
@@ -77,12 +72,7 @@ abbrev spent_keys : List Text
 spent_keys = codes "phase" ∷ []
 
 spent_is : (version : Version) (more : List Text) (r : Reply) → spent_of more ≡ Some r → IsReply version (codes "spent" ∷ keyed spent_keys more) r
-spent_is version (units ∷ phase ∷ []) r h =
-    let n = chained (λ n. option_map (λ p. Reply.Spent n p) (phase_of phase)) (number units) r h in
-    let p = mapped (λ p. Reply.Spent n.from p) (phase_of phase) r n.then in
-    let known = number_is units n.from n.is in
-    same_of reply_words (is_reply version) (codes "spent" ∷ units ∷ codes "phase" ∷ phase ∷ []) (Reply.Spent n.from p.from) r p.same
-    (rw (known.0, phase_is phase p.from p.is) refl, and_from _ _ known.1 refl)
+spent_is version (units ∷ phase ∷ []) r h = grind (arith, chained, mapped, number_is, same_of, phase_is, and_from)
 spent_is version more r h = cc
 
 abbrev stat_keys : List Text

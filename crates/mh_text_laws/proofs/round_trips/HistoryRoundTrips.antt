@@ -1,11 +1,11 @@
 -- Histories of both versions are read as they were written.
-use Rattle.std.proofs.Common.{◌≡◌, ◌∙◌, ℕ, suc, ◌≤◌, Bool, true, Option, Some, List, [], ◌∷◌, length, map, ap, sym, refl, codes, append-nil}
+use Rattle.std.proofs.Common.{arith, ◌≡◌, ◌∙◌, ℕ, suc, ◌≤◌, Bool, true, Option, Some, List, [], ◌∷◌, length, map, ap, sym, refl, append-nil}
 use Rattle.std.proofs.lemmas.Bool.{and_parts, and_from}
 use Rattle.std.specs.List.{list_all}
 use Rattle.mh_model.specs.{declared.config.Config.Config, declared.history.Entry.Entry}
 use Rattle.mh_model.specs.{Bytes.{Text, cut_after, words, joined, lines_text}, declared.history.Version.TheVariants.One}
 use Rattle.mh_model.specs.Script.{Means, reading_map}
-use Rattle.mh_model.specs.HistoryTexts.{Recorded, entry_words, measured_line, measured_words, is_entry, is_measured, entry_of, measured_of, header_words, header_of, history_text, recorded_text, entries_from, history_of, history_reading, recorded_by, recorded_of, recorded_reading}
+use Rattle.mh_model.specs.HistoryTexts.{Recorded, entry_words, measured_line, measured_words, is_entry, is_measured, measured_of, header_words, header_of, history_text, recorded_text, entries_from, history_reading, recorded_by, recorded_of, recorded_reading}
 use Rattle.mh_model.specs.declared.history.Measured.{Measured}
 use Rattle.mh_model.proofs.ScriptLemmas.{history_reading-short, recorded_reading-short}
 use Rattle.mh_text_laws.proofs.ListLemmas.{all-map}
@@ -38,11 +38,7 @@ cut-text lines h =
 
 pub history_reading-text : (entries : List Entry) → list_all (is_entry One) entries ≡ true → length (history_text entries) ≤ 1073741824
     → history_reading (history_text entries) ≡ Means entries
-history_reading-text entries h few =
-    let free : are_free 10 (codes "history 1" ∷ map entry_line entries) ≡ true =
-    all-map (is_entry One) (is_free 10) entry_line entries (λ e in_range. joined_free (entry_words e) (entry_are_words One e in_range)) h in
-    history_reading-short (history_text entries) few ∙ ap history_of (cut-text (codes "history 1" ∷ map entry_line entries) free)
-    ∙ entries_from-lines (λ line. entry_of One (words line)) entry_line (is_entry One) (entry_of-line One) 2 entries h
+history_reading-text entries h few = grind (arith, are_free, all-map, is_free, joined_free, entry_are_words, history_reading-short, cut-text, entries_from-lines, entry_of-line)
 
 -- Version 2 --------------------------------------------------------------------------------------
 

@@ -6,8 +6,7 @@ use Rattle.mh_model.specs.{declared.history.Version.TheVariants.Two, declared.re
 use Rattle.mh_model.specs.{Classes.{class_sizes, is_class_size}, Collector.Collector, Forms.u64}
 use Rattle.mh_model.specs.Machine.{Machine, blocks_in, blocks_of, dump_block, dump_pages, dump_slots, first_machine, machine_after, stat_on}
 use Rattle.mh_model.specs.Pages.{Page, Table, block_at, block_in, free_pages, page_at}
-use Rattle.mh_model.specs.Replies.{are_u64, ascends, is_after, is_reply, item_numbers, items_in_range}
-use Rattle.mh_model.specs.Table.{Block, is_forwarder}
+use Rattle.mh_model.specs.{Replies.{are_u64, ascends, is_after, is_reply, item_numbers, items_in_range}, Table.Block}
 use Rattle.mh_table_laws.proofs.{Lists.{below_length, member-passes}, tables.PageSlots.slots_in-class_size}
 use Rattle.mh_laws.proofs.{commands.LeftUnchanged.machine_after-pages, snapshots.RunningCycles.moments_keep}
 use Rattle.mh_run_laws.proofs.bounds.WithinEvents.{runs_within_events}
@@ -58,9 +57,7 @@ AreShown table = (number : ℕ) (page : Page Block) → page_at table number ≡
 
 block_in_range : (slot : ℕ) (block : Block) (forward : Option ℕ) → block.forward ≡ forward → slot < 64 → IsShown block → are_u64 (item_numbers (dump_block slot block forward)) ≡ true
 block_in_range slot block None is few shown = and_from _ _ (lt-ltb slot u64 (omega arith)) (and_from _ _ (lt-ltb block.birth u64 shown.birth) (and_from _ _ (lt-ltb block.part u64 shown.part) refl))
-block_in_range slot block (Some copy) is few shown =
-    let below = shown.near.target copy is in
-    and_from _ _ (lt-ltb slot u64 (omega arith)) (and_from _ _ (lt-ltb (copy / 64) u64 (omega (arith, below))) (and_from _ _ (lt-ltb (copy % 64) u64 (omega arith)) refl))
+block_in_range slot block (Some copy) is few shown = grind (arith, and_from, lt-ltb)
 
 slots_in_range : (slot : ℕ) (slots : List (Option Block)) (more : List DumpItem) → slot + length slots ≤ 64 → ((i : ℕ) (block : Block) → get_or slots i None ≡ Some block → IsShown block) → items_in_range more ≡ true
     → items_in_range (dump_slots slot slots ++ more) ≡ true
@@ -143,8 +140,4 @@ module _ (config : Config) (events : List Event) (few : length events < 1000000)
   pub stat-in_range : is_reply Two (Reply.Stat (stat_on collector)) ≡ true
   stat-in_range =
       let blocks = blocks-few collector.table table_shown in
-      let stat = stat_on collector in
-      and_from _ _ (lt-ltb stat.free u64 (omega (arith, free-few collector.table, pages_few)))
-      (and_from _ _ (lt-ltb stat.live u64 (omega (arith, filter-few (λ (block : Block). not (is_forwarder block)) (blocks_of collector.table), blocks, pages_few)))
-      (and_from _ _ (lt-ltb stat.old u64 (omega (arith, filter-few is_forwarder (blocks_of collector.table), blocks, pages_few)))
-      (and_from _ _ (lt-ltb stat.cycle u64 (omega (arith, (runs_within_events.after_events config events).cycles))) refl)))
+      grind (arith, and_from, lt-ltb, free-few, pages_few, filter-few, blocks, runs_within_events)

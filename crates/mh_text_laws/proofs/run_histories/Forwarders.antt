@@ -4,12 +4,12 @@ use Rattle.std.proofs.{lemmas.Bool.cases_Bool, lemmas.Option.{none-some, same_So
 use Rattle.mh_model.specs.{declared.command.Command.Command, declared.command.Event.Event}
 use Rattle.mh_model.specs.{declared.config.Config.Config, declared.cycle.Phase.Phase}
 use Rattle.mh_model.specs.Classes.{Part, class_of, part_words, parts, slots_in}
-use Rattle.mh_model.specs.Pages.{Page, Table, page_number, slot_number, page_at, block_in, block_at, least_place, page_with, with_block, page_for, with_taken}
+use Rattle.mh_model.specs.Pages.{Page, Table, page_number, slot_number, page_at, block_in, block_at, page_with, with_block, page_for, with_taken}
 use Rattle.mh_model.specs.Table.{Block, Made, MadeParts, new_block, made_in_class, made_part, made_parts, with_block_change, linked_block, linked_parts, group_of, made_group}
 use Rattle.mh_model.specs.Collector.{Collector, first_collector, swept_page, swept_table, next_move, Move, with_move, step_in, collector_step, step_cost, is_moving, is_idle, Spending, steps, quantum}
 use Rattle.mh_model.specs.Mutator.{HeapState, mutator_step}
 use Rattle.mh_model.specs.Machine.{Machine, first_machine, with_collector, quantum_run, command_step, machine_after}
-use Rattle.mh_model.specs.Invariant.{HasItsPages}
+use Rattle.mh_model.specs.Auxiliary.{HasItsPages}
 use Rattle.mh_table_laws.proofs.Lists.{below_length, get_or-set_either, none_at}
 use Rattle.mh_table_laws.proofs.{placing.Places.{least_dense_place-page, shaped-slots}, tables.BlockRoom.survivor-same}
 use Rattle.mh_table_laws.proofs.tables.PageSlots.{judged_page-is}
@@ -113,8 +113,7 @@ made_part-near : (table : Table Block) (birth stamp index : ℕ) (part : Part) (
 made_part-near table birth stamp index part made e near =
     let block : Block = new_block birth stamp index part in
     let (size, is, placed) = and_then-some (made_in_class table block) (class_of (part_words part)) made e in
-    let (place, least, same) = map-some (λ (place : ℕ). record { place = place; table = with_taken table size place block }) (least_place table size) made placed in
-    subst (λ (m : Made). IsNearTable m.table) same (with_taken-near table size place block (plain_near block refl) near)
+    grind (arith, map-some, with_taken-near, plain_near)
 
 made_parts-near : (list : List Part) (table : Table Block) (birth stamp index : ℕ) (made : MadeParts) → made_parts table birth stamp index list ≡ Some made → IsNearTable table → IsNearTable made.table
 made_parts-near [] table birth stamp index made e near = subst (λ (m : MadeParts). IsNearTable m.table) (same_Some (record { places = []; table = table }) made e) near

@@ -47,9 +47,7 @@ least-few window (letter ∷ letters) n e = go (nat_lt (suc (length letters)) wi
 
     go : (test : Bool) → least_of (map mutator_count (if test then [] else first ∷ stretches window letters)) ≡ Some n → n ≤ length (letter ∷ letters)
     go true h = absurd (none-some n h)
-    go false h =
-        let is = same_Some (lesser (mutator_count first) (least_of (map mutator_count (stretches window letters)))) n h in
-        omega (arith, is, lesser-first (mutator_count first) (least_of (map mutator_count (stretches window letters))), mutator-few first, length-take window (letter ∷ letters))
+    go false h = grind (arith, same_Some, first, lesser-first, mutator-few, length-take)
 
 floor-parts : (m k q r window : ℕ) → (m + k) * q + r ≡ window → m * q + (r - k) ≤ window
 floor-parts m k q r window is = omega arith
@@ -81,9 +79,7 @@ spent_in_range machine = grind (arith, and_from, lt-ltb, units-quantum, config_l
 -- Runs -------------------------------------------------------------------------------------------
 
 letters-few : (config : Config) (events : List Event) → length (machine_after (first_machine config) events).trace.letters ≤ length events * 1003661
-letters-few config events =
-    let machine : Machine = machine_after (first_machine config) events in
-    omega (arith, (runs_within_events.after_events config events).letters, mul-le-mul_left (length events) (runs_within_events.few machine.heap.config))
+letters-few config events = grind (arith, runs_within_events, mul-le-mul_left)
 
 report_in_range : (config : Config) (before : List Event) (window : ℕ) → length before < 1000000 → window < 2 ^ 64
     → let machine : Machine = machine_after (first_machine config) before in is_reply Two (Reply.Report (report_on machine.heap.config machine.trace window)) ≡ true
@@ -132,8 +128,7 @@ units-in_range config before e few =
     let machine : Machine = machine_after (first_machine config) before in
     let after : Machine = (event_step machine e).state in
     let letters : length after.trace.letters ≤ length (before ++ e ∷ []) * 1003661 = subst (λ (m : Machine). length m.trace.letters ≤ length (before ++ e ∷ []) * 1003661) (step-after config before e) (letters-few config (before ++ e ∷ [])) in
-    let count = length-append before (e ∷ []) in
-    grind (arith, and_from, lt-ltb, mutator-few, collector-few)
+    grind (arith, length-append, and_from, lt-ltb, mutator-few, collector-few)
 
 -- an entry of the record of a run
 pub measured-in_range : (config : Config) (before : List Event) (e : Event) → list_all (is_event Two) before ≡ true → is_event Two e ≡ true → length before < 1000000

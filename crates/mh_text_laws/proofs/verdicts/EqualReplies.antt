@@ -1,5 +1,5 @@
 -- A reply in range is another, or it isn't: their words tell.
-use Rattle.std.proofs.Common.{◌≡◌, ◌∙◌, ◌⊎◌, inl, inr, Bool, true, false, List, [], ◌∷◌, ap, sym, refl, subst}
+use Rattle.std.proofs.Common.{arith, ◌≡◌, ◌∙◌, ◌⊎◌, inl, inr, Bool, true, false, List, [], ◌∷◌, ap, sym, refl, subst}
 use Rattle.std.proofs.{lemmas.Bool.{and_from, both_ways}, lemmas.Option.same_Some}
 use Rattle.mh_model.specs.{declared.reply.Reply.Reply, Bytes.Text, declared.history.Version.Version}
 use Rattle.mh_model.specs.Replies.{reply_words, reply_of, is_reply, are_texts}
@@ -16,7 +16,5 @@ same_or_other version r s in_range = by (is_reply version s) (are_texts (reply_w
   by true true is alike =
       let words : reply_words r ≡ reply_words s = texts_are (reply_words r) (reply_words s) alike in
       inl (same_Some r s (sym (reply_of-words version r in_range) ∙ ap (reply_of version) words ∙ reply_of-words version s is))
-  by true false is unlike =
-      let alike : List Text → Type 0 = λ words. are_texts (reply_words r) words ≡ true in
-      inr (λ same. both_ways (are_texts (reply_words r) (reply_words s)) unlike (subst alike (ap reply_words same) (are_texts-themselves (reply_words r))))
+  by true false is unlike = grind (arith, inr, both_ways, are_texts-themselves)
   by false alike is told = inr (λ same. both_ways (is_reply version s) is (subst (λ (x : Reply). is_reply version x ≡ true) same in_range))

@@ -1,10 +1,10 @@
 -- Legal histories of both versions keep their rule step by step.
-use Rattle.std.proofs.{Common.{◌≡◌, ◌⊎◌, ℕ, true, List, [], ◌∷◌, refl, arith}, lemmas.Bool.{and_parts, cases_eq}}
+use Rattle.std.proofs.{Common.{◌≡◌, ◌⊎◌, ℕ, true, List, [], ◌∷◌, refl, arith}, lemmas.Bool.and_parts}
 use Rattle.mh_model.specs.{declared.config.Config.Config, declared.reply.Reply.Reply, declared.history.Entry.Entry}
-use Rattle.mh_model.specs.declared.history.Version.TheVariants.{One, Two}
+use Rattle.mh_model.specs.declared.history.Version.TheVariants.{One}
 use Rattle.mh_model.specs.{Machine.{Machine, first_machine, event_step, machine_replies}, Limits.most_entries}
 use Rattle.mh_model.specs.History.{IsLegal, events_of, replies_of}
-use Rattle.mh_model.specs.HistoryTexts.{is_entry, is_measured, measured_events, measured_step, machine_record, IsLegalRecord}
+use Rattle.mh_model.specs.HistoryTexts.{is_entry, measured_events, measured_step, machine_record, IsLegalRecord}
 use Rattle.mh_model.specs.declared.history.Measured.{Measured}
 use Rattle.mh_text_laws.proofs.{ListLemmas.{first_same, others_same}, verdicts.EqualReplies.same_or_other}
 use Rattle.mh_text_laws.proofs.verdicts.StepRules.{Follows, IsRule}
@@ -46,20 +46,6 @@ after_measured machine m = (event_step machine m.entry.event).state
 
 abbrev with_parts : Measured → Reply → ℕ → ℕ → Measured
 with_parts m reply a b = record { entry = record { event = m.entry.event; reply = reply }; mutator = a; collector = b }
-
-parts_same : (m : Measured) (reply : Reply) (a b : ℕ) → m.entry.reply ≡ reply → m.mutator ≡ a → m.collector ≡ b → m ≡ with_parts m reply a b
-parts_same m reply a b p q s = grind arith
-
-parts_or_not : (m : Measured) (reply : Reply) (a b : ℕ) → (m.entry.reply ≡ reply) ⊎ (m.entry.reply ≡ reply → ⊥) → (m.mutator ≡ a) ⊎ (m.mutator ≡ a → ⊥)
-    → (m.collector ≡ b) ⊎ (m.collector ≡ b → ⊥)
-    → (m ≡ with_parts m reply a b) ⊎ (m ≡ with_parts m reply a b → ⊥)
-parts_or_not m reply a b is second third = grind (arith, parts_same)
-
-pub right_or_not : (machine : Machine) (m : Measured) → is_measured m ≡ true → IsRight machine m ⊎ (IsRight machine m → ⊥)
-right_or_not machine m h =
-    let step : Measured = measured_step machine m.entry.event (event_step machine m.entry.event) in
-    parts_or_not m step.entry.reply step.mutator step.collector (same_or_other Two m.entry.reply step.entry.reply (and_parts _ _ (and_parts _ _ h).0).1)
-    (cases_eq m.mutator step.mutator) (cases_eq m.collector step.collector)
 
 record-follows : (machine : Machine) (entries : List Measured) → Follows IsRight after_measured machine entries → entries ≡ machine_record machine (measured_events entries)
 unfolding machine_record

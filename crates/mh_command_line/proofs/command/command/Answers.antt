@@ -1,6 +1,7 @@
 use Rattle.std.proofs.Common.{◌∙◌, List, ap, codes, fold, map}
 use Rattle.clap.specs.Words.{App, new_app}
-use Rattle.mh_command_line.specs.Table.{Subcommand, finished_app, first_subcommands, subcommand_of_row, with_its_app}
+use Rattle.mh_command_line.specs.Table.{Subcommand, finished_app, first_subcommands, with_its_app}
+use Rattle.mh_command_line.specs.Auxiliary.{subcommand_of_row}
 use Rattle.mh_command_line.proofs.command.command.Goals as goal
 
 pub returns : goal.returns

@@ -1,6 +1,6 @@
 use Rattle.std.proofs.Common.{◌≡◌, false, map, take}
 use Rattle.clap.specs.{Words.app_of, declared.builder.command.Command.TheViews.out-Command}
-use Rattle.mh_command_line.specs.Table.{app_with, choice_of}
+use Rattle.mh_command_line.specs.{Table.app_with, Auxiliary.choice_of}
 use Rattle.mh_command_line.proofs.command.subcommand.Given as goal
 
 abbrev pub invariant-loop-row : goal.invariant-loop-row

@@ -1,6 +1,6 @@
 use Rattle.std.proofs.Common.{◌≡◌, fold, map, take}
 use Rattle.clap.specs.Words.{app_of}
-use Rattle.mh_command_line.specs.Table.{subcommand_of_row, with_its_app}
+use Rattle.mh_command_line.specs.{Auxiliary.subcommand_of_row, Table.with_its_app}
 use Rattle.mh_command_line.proofs.command.with_subcommands.Given as goal
 
 abbrev pub invariant-loop-row : goal.invariant-loop-row

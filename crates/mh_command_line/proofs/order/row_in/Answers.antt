@@ -1,6 +1,6 @@
 use Rattle.std.proofs.Common.{◌∙◌, sym, rules}
 use Rattle.std.specs.Str.{bytes_eq}
-use Rattle.mh_command_line.specs.Table.{SubcommandRow}
+use Rattle.mh_command_line.specs.Auxiliary.{SubcommandRow}
 use Rattle.mh_command_line.proofs.ReadingLemmas.{find_next}
 use Rattle.mh_command_line.proofs.order.row_in.Goals as goal
 

@@ -1,5 +1,5 @@
 use Rattle.std.proofs.Common.{subst, arith}
-use Rattle.mh_defrag.specs.Moves.{AreUnflagged}
+use Rattle.mh_defrag.specs.Auxiliary.{AreUnflagged}
 use Rattle.mh_defrag.proofs.StillLemmas.{pages-still}
 use Rattle.mh_defrag.proofs.defrag.still_run.Goals as goal
 

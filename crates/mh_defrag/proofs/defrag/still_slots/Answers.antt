@@ -4,11 +4,7 @@ use Rattle.mh_defrag.proofs.StillLemmas.{slots-go, slots-end}
 use Rattle.mh_defrag.proofs.defrag.still_slots.Goals as goal
 
 pub returns-then-slot-count-clause-still : goal.returns-then-slot-count-clause-still
-returns-then-slot-count-clause-still c =
-    let class = subst (λ n. class_at c.args.blocks.now n ≡ Some c.in-Some.class) c.page-page.ensures (sym c.in-Some.ensures) in
-    rw c.place.view_is
-    (slots-go c.args.blocks.now c.args.place c.in-Some.class c.still_count-count.result c.len.ensures.slots class c.requires.flagged (omega (arith, c.slots-slots.ensures.value, c.slots-slots.ensures.few)) c.requires.inside
-    (omega (arith, c.slot-slot.ensures, c.slots-slots.ensures.value, c.still_count-count.ensures.few, c.min.ensures, c.if-slot-slots.false, c.if-slot-count.true)) c.still_count-count.ensures.still)
+returns-then-slot-count-clause-still c = grind (arith, slots-go)
 
 pub returns-clause-still : goal.returns-clause-still
 returns-clause-still c =

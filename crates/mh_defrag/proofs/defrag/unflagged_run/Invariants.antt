@@ -1,4 +1,4 @@
-use Rattle.mh_defrag.specs.Moves.{AreUnflagged}
+use Rattle.mh_defrag.specs.Auxiliary.{AreUnflagged}
 use Rattle.mh_defrag.proofs.defrag.unflagged_run.Given as goal
 
 abbrev pub invariant-loop-count : goal.invariant-loop-count

@@ -1,6 +1,6 @@
 use Rattle.std.proofs.Common.{◌∙◌, ◌++◌, ap, refl, arith}
 use Rattle.mh_model.specs.{Bytes.{Text, line_text}, World.births}
-use Rattle.mh_generate.specs.Scripts.{config_line}
+use Rattle.mh_generate.specs.Auxiliary.{config_line}
 use Rattle.mh_generate.proofs.WritingLemmas.{all_written, begun_written, fails_written, more_written, none_written, nothing_asked, written_on}
 use Rattle.mh_generate.proofs.generate.generate.Goals as goal
 

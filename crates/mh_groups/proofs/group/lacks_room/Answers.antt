@@ -8,6 +8,4 @@ unfolding is_class_size
 of_size-requires c = refl
 
 pub returns-clause-refused : goal.returns-clause-refused
-returns-clause-refused c = λ less birth stamp.
-    let room = rw c.of_size.ensures at c.free_places.ensures.count in
-    no_room c.args.blocks.now birth stamp c.args.parts.now c.free_places.ensures.slots (omega (arith, ltb-true _ _ less, room, c.full_parts.ensures))
+returns-clause-refused c = grind (arith, no_room, ltb-true)

@@ -1,5 +1,4 @@
-use Rattle.std.proofs.Common.{◌≡◌, length, is_some, is_none, not, sym, ap, ◌∙◌, subst, add-one, arith}
-use Rattle.std.proofs.Math.Bool.{not-not}
+use Rattle.std.proofs.{Common.{◌≡◌, length, is_some, is_none, not, sym, ap, ◌∙◌, add-one, arith}, Math.Bool.not-not}
 use Rattle.mh_model.specs.Pages.{page_number, class_at}
 use Rattle.mh_groups.proofs.MadeLemmas.{AreMadeSoFar, one_so_far, all_so_far, told_so_far, full_so_far, unlinked_so_far}
 use Rattle.mh_groups.proofs.group.make_parts.Goals as goal
@@ -19,17 +18,12 @@ loop-index-preserved c =
 pub returns-clause-unlinked : goal.returns-clause-unlinked
 returns-clause-unlinked c =
     let end : c.loop-index.index ≡ length c.args.parts.now = omega arith in
-    unlinked_so_far c.args.blocks.now c.args.birth c.args.stamp c.args.parts.now c.loop-index.blocks c.loop-index.places c.loop-index.fresh
-    (subst (AreMadeSoFar c.args.blocks.now c.args.birth c.args.stamp c.args.parts.now c.loop-index.blocks c.loop-index.places c.loop-index.fresh) end c.loop-index.invariant)
+    grind (arith, unlinked_so_far, AreMadeSoFar)
 
 pub returns-clause-made : goal.returns-clause-made
 returns-clause-made c =
     let end : c.loop-index.index ≡ length c.args.parts.now = omega arith in
-    all_so_far c.args.blocks.now c.args.birth c.args.stamp c.args.parts.now c.loop-index.blocks c.loop-index.places c.loop-index.fresh
-    (subst (AreMadeSoFar c.args.blocks.now c.args.birth c.args.stamp c.args.parts.now c.loop-index.blocks c.loop-index.places c.loop-index.fresh) end c.loop-index.invariant)
+    grind (arith, all_so_far, AreMadeSoFar)
 
 pub returns-clause-told : goal.returns-clause-told
-returns-clause-told c =
-    let end : c.loop-index.index ≡ length c.args.parts.now = omega arith in
-    told_so_far c.args.blocks.now c.args.birth c.args.stamp c.args.parts.now c.loop-index.blocks c.loop-index.places c.loop-index.fresh
-    (subst (AreMadeSoFar c.args.blocks.now c.args.birth c.args.stamp c.args.parts.now c.loop-index.blocks c.loop-index.places c.loop-index.fresh) end c.loop-index.invariant)
+returns-clause-told c = grind (arith, told_so_far, AreMadeSoFar)

@@ -1,16 +1,11 @@
-use Rattle.std.proofs.Common.{◌≡◌, ◌<◌, IsSome, length, get_or, take, sym, subst, add-one, arith}
-use Rattle.std.proofs.lemmas.List.{get_or_read}
-use Rattle.mh_model.specs.Pages.{block_at}
-use Rattle.mh_groups.specs.Placed.{placed_deeds}
+use Rattle.std.proofs.{Common.{◌≡◌, ◌<◌, length, get_or, take, sym, add-one, arith}, lemmas.List.get_or_read}
+use Rattle.mh_groups.specs.Auxiliary.{placed_deeds}
 use Rattle.mh_deeds.proofs.ToldLemmas.{told-then}
 use Rattle.mh_groups.proofs.TellLemmas.{deeds-last, page-inside}
 use Rattle.mh_groups.proofs.group.tell_parts.Goals as goal
 
 pub tier_at-tier-requires : goal.tier_at-tier-requires
-tier_at-tier-requires g c =
-    let within : c.loop-index.index < length c.args.places.now = omega arith in
-    let place : c.index-places-index.result ≡ get_or c.args.places.now c.loop-index.index 0 = get_or_read _ _ _ within c.index-places-index.is 0 in
-    page-inside c.args.blocks.now c.index-places-index.result (subst (λ p. IsSome (block_at c.args.blocks.now p)) (sym place) (c.requires.there c.loop-index.index (omega arith)))
+tier_at-tier-requires g c = grind (arith, get_or_read, page-inside)
 
 pub loop-index-preserved : goal.loop-index-preserved
 loop-index-preserved g c =

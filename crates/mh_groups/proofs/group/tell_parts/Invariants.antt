@@ -1,6 +1,6 @@
 use Rattle.std.proofs.Common.{take}
 use Rattle.mh_deeds.specs.Logs.{Told}
-use Rattle.mh_groups.specs.Placed.{placed_deeds}
+use Rattle.mh_groups.specs.Auxiliary.{placed_deeds}
 use Rattle.mh_groups.proofs.group.tell_parts.Given as goal
 
 abbrev pub invariant-loop-index : goal.invariant-loop-index

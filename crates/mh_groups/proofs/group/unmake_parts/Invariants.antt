@@ -1,5 +1,5 @@
 use Rattle.std.proofs.Common.{◌≡◌}
-use Rattle.mh_groups.specs.Making.{without_parts, AllCanBeUnmade}
+use Rattle.mh_groups.specs.Auxiliary.{without_parts, AllCanBeUnmade}
 use Rattle.mh_groups.proofs.group.unmake_parts.Given as goal
 
 abbrev pub invariant-loop-index : goal.invariant-loop-index

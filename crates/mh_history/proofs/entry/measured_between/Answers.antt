@@ -1,4 +1,4 @@
-use Rattle.std.proofs.Common.{sym}
+use Rattle.std.proofs.Common.{arith, sym}
 use Rattle.mh_history.proofs.HalfLemmas.{measured_some, measured_none, wrong_units}
 use Rattle.mh_history.proofs.entry.measured_between.Goals as goal
 
@@ -11,6 +11,4 @@ returns-in-Some-2-clause-measured c =
     sym (measured_some c.args.event c.args.rest c.in-Some.reply c.in-Some.units c.in-Some-2.entry c.in-Some-units_of.mutator c.in-Some-units_of.collector c.requires.no_equals c.requires.no_units c.in-Some.ensures.some (sym read) c.in-Some-units_of.ensures.some)
 
 pub returns-in-None-clause-measured : goal.returns-in-None-clause-measured
-returns-in-None-clause-measured c =
-    let read = rw c.in-None.is at c.in_ok-entry.ensures.entry in
-    sym (measured_none c.args.event c.args.rest c.in-Some.reply c.in-Some.units c.requires.no_equals c.requires.no_units c.in-Some.ensures.some (sym read))
+returns-in-None-clause-measured c = grind (arith, measured_none)

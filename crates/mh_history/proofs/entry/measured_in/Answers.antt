@@ -1,5 +1,5 @@
 use Rattle.std.proofs.Common.{ap, ◌∙◌}
-use Rattle.mh_history.specs.Halves.{all_lack}
+use Rattle.mh_history.specs.Auxiliary.{all_lack}
 use Rattle.mh_history.proofs.HalfLemmas.{lacks_equals}
 use Rattle.mh_history.proofs.entry.measured_in.Goals as goal
 

@@ -1,4 +1,4 @@
-use Rattle.std.proofs.lemmas.Result.{err_from_is_err_and}
+use Rattle.std.proofs.{Common.arith, lemmas.Result.err_from_is_err_and}
 use Rattle.mh_text.proofs.ErrorLemmas.{same_error}
 use Rattle.mh_history.proofs.LineLemmas.{taken_entry, walked_entry, walked_more}
 use Rattle.mh_history.proofs.lines.entries_from.Goals as goal
@@ -9,8 +9,7 @@ returns-in_err-entry-clause-memory g c =
     rw (p.1, p.2) (λ is. walked_entry _ _ _ _ c.loop-entries.invariant (c.in_err-entry.ensures.memory (same_error _ _ is)))
 
 pub loop-entries-preserved : goal.loop-entries-preserved
-loop-entries-preserved g c =
-    walked_more _ _ _ _ _ _ _ c.loop-entries.invariant (rw c.in-Some.is at c.in_ok-entry.ensures.taken) c.in_ok-push.ensures.items
+loop-entries-preserved g c = grind (arith, walked_more)
 
 pub returns-in_err-push-clause-memory : goal.returns-in_err-push-clause-memory
 returns-in_err-push-clause-memory g c =

@@ -1,5 +1,5 @@
 use Rattle.std.proofs.Common.{rules, ap, Err}
-use Rattle.mh_live.specs.Answers.{Starved}
+use Rattle.mh_live.specs.Auxiliary.{Starved}
 use Rattle.mh_live.proofs.LineTurns.{dump_done, undone}
 use Rattle.mh_live.proofs.answer.answer_dump.Goals.{in-Ok, in-Err+in_ok-not_done-in-Err}
 use Rattle.mh_live.proofs.answer.answer_dump.Goals as goal

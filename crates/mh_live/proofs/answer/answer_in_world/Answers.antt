@@ -1,5 +1,5 @@
 use Rattle.std.proofs.Common.{rules, ap, Err}
-use Rattle.mh_live.specs.Answers.{Grew}
+use Rattle.mh_live.specs.Auxiliary.{Grew}
 use Rattle.mh_live.proofs.LineTurns.{ungrown}
 use Rattle.mh_live.proofs.answer.answer_in_world.Goals as goal
 

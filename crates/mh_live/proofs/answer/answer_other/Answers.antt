@@ -1,5 +1,5 @@
 use Rattle.std.proofs.Common.{rules, ap, Err}
-use Rattle.mh_live.specs.Answers.{Done}
+use Rattle.mh_live.specs.Auxiliary.{Done}
 use Rattle.mh_live.proofs.LineTurns.{undone}
 use Rattle.mh_live.proofs.answer.answer_other.Goals as goal
 

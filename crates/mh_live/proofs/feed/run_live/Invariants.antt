@@ -2,7 +2,7 @@ use Rattle.std.proofs.Common.{◌≡◌, ◌≤◌, length}
 use Rattle.std.specs.Io.KnownBytes.{Consumes}
 use Rattle.mh_model.specs.Bytes.{Text}
 use Rattle.mh_text.specs.Devices.{Works}
-use Rattle.mh_live.specs.Feeding.{IsFed}
+use Rattle.mh_live.specs.Auxiliary.{IsFed}
 use Rattle.mh_live.proofs.feed.run_live.Given as goal
 
 -- what was read so far was answered, the refused lines in it were told, and no device has failed

@@ -1,4 +1,4 @@
-use Rattle.std.proofs.{Common.{◌∙◌, ap, refl}, lemmas.List.get_or_default}
+use Rattle.std.proofs.{Common.{arith, ◌∙◌, ap, refl}, lemmas.List.get_or_default}
 use Rattle.mh_mark.proofs.KeptLemmas.{kept-refl, blocks-goes, blocks-skips, settled-at}
 use Rattle.mh_mark.proofs.batch.mark_unsettled.Goals as goal
 
@@ -21,7 +21,4 @@ loop-index-preserved c =
     }
 
 pub loop-index-preserved-then-settled-index : goal.loop-index-preserved-then-settled-index
-loop-index-preserved-then-settled-index c = record {
-  on = blocks-skips _ _ _ _ c.loop-index.invariant.on c.loop-index-test.true (settled-at _ c.args.grey.now.places _ _ _ c.loop-index.index c.requires.settled c.loop-index-test.true c.if-settled-index.true);
-  pages = c.loop-index.invariant.pages;
-}
+loop-index-preserved-then-settled-index c = grind (arith, blocks-skips, settled-at)

@@ -1,6 +1,6 @@
 use Rattle.std.proofs.Common.{◌≡◌, ◌++◌, drop}
 use Rattle.mh_model.specs.Machine.{dump_slots}
-use Rattle.mh_paged.specs.Dumped.{slots_at}
+use Rattle.mh_paged.specs.Auxiliary.{slots_at}
 use Rattle.mh_paged.proofs.dump.add_slots.Given as goal
 
 abbrev pub invariant-loop-slot : goal.invariant-loop-slot

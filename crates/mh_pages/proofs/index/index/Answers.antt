@@ -1,5 +1,5 @@
 use Rattle.std.proofs.Common.{refl}
-use Rattle.mh_pages.specs.Indexed.{indexed_again}
+use Rattle.mh_pages.specs.Auxiliary.{indexed_again}
 use Rattle.mh_pages.proofs.index.index.Goals as goal
 
 pub returns : goal.returns

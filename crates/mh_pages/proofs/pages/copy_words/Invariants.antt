@@ -1,4 +1,4 @@
-use Rattle.mh_pages.specs.Kept.{IsCopied}
+use Rattle.mh_pages.specs.Auxiliary.{IsCopied}
 use Rattle.mh_pages.proofs.pages.copy_words.Given as goal
 
 abbrev pub invariant-loop-index : goal.invariant-loop-index

@@ -1,6 +1,6 @@
 use Rattle.std.proofs.Common.{◌≡◌, ◌+◌, All, vec_len, length}
 use Rattle.mh_service.specs.Services.{ServiceView}
-use Rattle.mh_race.specs.Racing.{IsNewSeat, IsFresh}
+use Rattle.mh_race.specs.Auxiliary.{IsNewSeat, IsFresh}
 use Rattle.mh_race.proofs.race.racers_of.Given as goal
 
 abbrev pub invariant-loop-seat : goal.invariant-loop-seat

@@ -1,6 +1,6 @@
 use Rattle.std.proofs.Common.{◌≡◌, ◌++◌, All, map, ap, ◌∙◌, sym, subst, replicate, None}
 use Rattle.std.proofs.lemmas.List.Elements.{All-append, All-map}
-use Rattle.mh_race.specs.Racing.{AreRun}
+use Rattle.mh_race.specs.Auxiliary.{AreRun}
 use Rattle.mh_service.specs.Services.{IsOfService}
 use Rattle.mh_race.proofs.RunSeats.{nobody-stopped, seats-run}
 use Rattle.mh_race.proofs.race.run_seats.Goals as goal

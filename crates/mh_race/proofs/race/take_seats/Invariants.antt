@@ -1,5 +1,5 @@
 use Rattle.std.proofs.Common.{◌≡◌, ◌++◌, map, vec_capacity}
-use Rattle.mh_race.specs.Racing.{AreNoted}
+use Rattle.mh_race.specs.Auxiliary.{AreNoted}
 use Rattle.mh_race.proofs.race.take_seats.Given as goal
 
 abbrev pub invariant-loop-seat : goal.invariant-loop-seat

@@ -1,14 +1,11 @@
-use Rattle.std.proofs.Common.{◌≡◌, Some, None, option_and_then, sym, ap, ◌∙◌}
+use Rattle.std.proofs.Common.{arith, ◌≡◌, Some, option_and_then, sym, ap, ◌∙◌}
 use Rattle.mh_model.specs.{Bytes.numbers, HistoryTexts.header_by}
 use Rattle.mh_text.specs.Words.{few_numbers}
 use Rattle.mh_reasons.proofs.HeaderLemmas.{four_left, given_outside}
 use Rattle.mh_reasons.proofs.header.given_reason.Goals as goal
 
 pub unreachable-requires-in_default-numbers : goal.unreachable-requires-in_default-numbers
-unreachable-requires-in_default-numbers c =
-    let left = four_left c.copy.result c.next_number.new.words c.in-Some-next_number.rules c.in_default.ensures.none (ap numbers c.copy.ensures ∙ c.in-Some-next_number.ensures.some) in
-    let bad : Some left.0 ≡ None = sym left.1 ∙ c.in_default-numbers.ensures.none in
-    cc
+unreachable-requires-in_default-numbers c = grind (arith, four_left)
 
 pub returns : goal.returns
 returns c =

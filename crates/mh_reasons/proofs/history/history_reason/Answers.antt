@@ -1,34 +1,21 @@
-use Rattle.std.proofs.Common.{◌≡◌, ◌<◌, ◌≤◌, ◌==◌, true, false, [], length, refl, sym, ap, ◌∙◌, arith}
-use Rattle.std.proofs.{lemmas.Bool.Decides.nat_tests, lemmas.List.nil_from_length}
-use Rattle.mh_text.specs.Pieces.{Lines, TakesLine, lines_from}
+use Rattle.std.proofs.{Common.{◌≤◌, true, false, length, arith}, lemmas.Bool.Decides.nat_tests}
+use Rattle.std.proofs.lemmas.List.{nil_from_length}
+use Rattle.mh_text.specs.Pieces.{TakesLine, lines_from}
 use Rattle.mh_reasons.specs.HistoryReasons.{most_bytes}
 use Rattle.mh_reasons.proofs.HistoryLemmas.{long_bad, empty_bad, no_line, wrong_first, told_first, entered_none, entered_wrong, entered_line, entered_more}
 use Rattle.mh_reasons.proofs.history.history_reason.Goals as goal
 
 pub returns-then-text-most_bytes : goal.returns-then-text-most_bytes
-returns-then-text-most_bytes c =
-    let long : most_bytes c.args.version < length c.args.text.now = rw (← c.most_bytes.ensures) c.if-text-most_bytes.true in
-    (refl, long_bad c.args.version c.args.text.now c.args.line long c.requires, long)
+returns-then-text-most_bytes c = grind (arith, long_bad)
 
 pub returns-then-is_empty : goal.returns-then-is_empty
-returns-then-is_empty c =
-    let short : length c.args.text.now ≤ most_bytes c.args.version = rw (← c.most_bytes.ensures) c.if-text-most_bytes.false in
-    let is : (length c.args.text.now == 0) ≡ true = sym c.if-is_empty.ensures in
-    let none : c.args.text.now ≡ [] = nil_from_length c.args.text.now (grind (arith, nat_tests, is)) in
-    (empty_bad c.args.version c.args.text.now c.args.line short c.requires none, none)
+returns-then-is_empty c = grind (arith, nil_from_length, nat_tests, empty_bad)
 
 pub returns-in_default : goal.returns-in_default
-returns-in_default c =
-    let short : length c.args.text.now ≤ most_bytes c.args.version = rw (← c.most_bytes.ensures) c.if-text-most_bytes.false in
-    let is : (length c.args.text.now == 0) ≡ false = sym c.if-is_empty.ensures in
-    no_line c.args.version c.args.text.now c.args.line short c.requires (ap (λ (l : Lines). l.lines) (sym c.new-lines.ensures) ∙ c.in_default.ensures.end)
-    (λ none. absurd (grind (arith, nat_tests, is, ap length none)))
+returns-in_default c = grind (arith, no_line, nat_tests)
 
 pub first_line_reason-requires : goal.first_line_reason-requires
-first_line_reason-requires c =
-    let short : length c.args.text.now ≤ most_bytes c.args.version = rw (← c.most_bytes.ensures) c.if-text-most_bytes.false in
-    let takes : TakesLine (lines_from 1 c.args.text.now) c.next_line.new.self c.in-Some.field-0-0 c.in-Some.first.now = rw c.new-lines.ensures at c.in-Some.ensures.next in
-    wrong_first c.args.version c.args.text.now c.args.line _ _ _ short c.requires takes c.if-line-eq1.true
+first_line_reason-requires c = grind (arith, wrong_first)
 
 pub returns-then-line-eq1 : goal.returns-then-line-eq1
 returns-then-line-eq1 c =

@@ -22,5 +22,4 @@ loop-number-preserved-then-configured c =
     reached_after _ _ _ c.loop-number.lines _ c.in-Some.number c.in-Some.bytes.now c.if-configured.true c.loop-number.invariant c.in-Some.ensures.next c.if-number-line.false
 
 pub loop-number-preserved : goal.loop-number-preserved
-loop-number-preserved c =
-    reached_before _ _ c.loop-number.configured _ c.loop-number.lines _ c.in-Some.number c.in-Some.bytes.now c.if-configured.false c.is_blank.ensures c.loop-number.invariant c.in-Some.ensures.next c.if-number-line.false
+loop-number-preserved c = grind (arith, reached_before)

@@ -1,5 +1,5 @@
 use Rattle.std.proofs.Common.{◌≡◌, ◌+◌, ◌-◌, ◌≤◌, drop, length}
-use Rattle.mh_report.specs.{Points.{IsPoint, after}, Segments.letters_of}
+use Rattle.mh_report.specs.{Auxiliary.IsPoint, Points.after, Segments.letters_of}
 use Rattle.mh_report.proofs.slide.point_after.Given as goal
 
 abbrev pub invariant-loop-left : goal.invariant-loop-left

@@ -1,24 +1,10 @@
-use Rattle.std.proofs.Common.{◌≡◌, ◌∙◌, ◌++◌, [], length, ap, refl, sym, subst, append-nil, append_assoc, arith}
-use Rattle.std.proofs.lemmas.List.{length-drop}
-use Rattle.mh_report.specs.{Segments.{letter_of, letters_of}, Slides.{passings, passings_of}, Points.after}
+use Rattle.std.proofs.{Common.{◌∙◌, ◌++◌, length, ap, sym, append-nil, append_assoc, arith}, lemmas.List.length-drop}
+use Rattle.mh_report.specs.{Segments.letter_of, Slides.passings, Points.after}
 use Rattle.mh_report.proofs.WalkLemmas.{length-alike, no_letters}
 use Rattle.mh_report.proofs.slide.slide.Goals as goal
 
 pub loop-left-init : goal.loop-left-init
-loop-left-init g c =
-    let segments = c.args.segments.now in
-    let start : after segments c.point_after-leaving.result ≡ letters_of segments = c.point_after-leaving.ensures.after in
-    let end = c.point_after-entering.ensures.after in
-    let first = ap length start in
-    let last = ap length end ∙ length-drop c.args.window (letters_of segments) in
-    record {
-      leaving = c.point_after-leaving.ensures.point;
-      entering = c.point_after-entering.ensures.point;
-      left = omega (arith, last, c.requires.letters);
-      long = omega (arith, first, c.requires.letters);
-      room = c.requires.room;
-      slides = ([], g.met.S.Slider.still c.args.slider.now, rw (start, end) refl);
-    }
+loop-left-init g c = grind (arith, length-drop)
 
 pub loop-left-preserved : goal.loop-left-preserved
 loop-left-preserved g c =
@@ -47,9 +33,4 @@ loop-left-preserved g c =
     }
 
 pub returns : goal.returns
-returns g c =
-    let segments = c.args.segments.now in
-    let so_far = c.loop-left.invariant.slides in
-    let none : after segments c.loop-left.entering ≡ [] = no_letters _ (omega (arith, c.loop-left.invariant.left)) in
-    let all : passings_of c.args.window (letters_of segments) ≡ so_far.0 = so_far.2 ∙ ap (λ entering. so_far.0 ++ passings (after segments c.loop-left.leaving) entering) none ∙ append-nil so_far.0 in
-    record { slides = subst (λ ps. g.S.Slider.slides c.args.slider.now ps c.loop-left.slider) (sym all) so_far.1 }
+returns g c = grind (arith, no_letters, append-nil)

@@ -1,5 +1,6 @@
 use Rattle.std.proofs.Common.{◌≡◌, ◌+◌, ◌-◌, ◌≤◌, ◌++◌, List, length}
-use Rattle.mh_report.specs.{Points.{IsPoint, after}, Segments.letters_of, Slides.{Passing, passings, passings_of}}
+use Rattle.mh_report.specs.{Auxiliary.IsPoint, Points.after, Segments.letters_of}
+use Rattle.mh_report.specs.Slides.{Passing, passings, passings_of}
 use Rattle.mh_report.proofs.slide.slide.Given as goal
 
 abbrev pub invariant-loop-left : goal.invariant-loop-left

@@ -1,16 +1,10 @@
-use Rattle.std.proofs.Common.{◌≡◌, ◌∙◌, ◌-◌, [], ◌++◌, replicate, length, ap, refl, sym, append_assoc, arith}
+use Rattle.std.proofs.Common.{◌≡◌, ◌∙◌, ◌-◌, ◌++◌, replicate, length, ap, sym, append_assoc, arith}
 use Rattle.mh_report.specs.{Segments.letter_of, Slides.{alike, passings}, Points.after}
 use Rattle.mh_report.proofs.{WalkLemmas.length-alike, SlideLemmas.passings_some}
 use Rattle.mh_report.proofs.slide.slide_over.Goals as goal
 
 pub loop-left-init : goal.loop-left-init
-loop-left-init g c = record {
-  point = c.requires.point;
-  shorter = refl;
-  small = omega arith;
-  room = refl;
-  slides = λ rest. ([], g.met.S.Slider.still c.args.slider.now, refl);
-}
+loop-left-init g c = grind arith
 
 pub loop-left-preserved : goal.loop-left-preserved
 loop-left-preserved g c =

@@ -1,6 +1,6 @@
 use Rattle.std.proofs.Common.{◌≡◌, ◌+◌, ◌-◌, ◌≤◌, ◌++◌, List, length, replicate}
 use Rattle.mh_model.specs.Trace.{Letter}
-use Rattle.mh_report.specs.{Points.{IsPoint, after}, Segments.letter_of, Slides.{Passing, passings}}
+use Rattle.mh_report.specs.{Auxiliary.IsPoint, Points.after, Segments.letter_of, Slides.{Passing, passings}}
 use Rattle.mh_report.proofs.slide.slide_over.Given as goal
 
 abbrev pub invariant-loop-left : goal.invariant-loop-left

@@ -1,7 +1,7 @@
 use Rattle.std.proofs.Common.{arith, ◌≡◌, ℕ, List, true, false, Some}
 use Rattle.std.proofs.lemmas.List.Elements.{All-pop, All-push, All-append}
 use Rattle.mh_claims.specs.Seats.{DrawSeatView, DrawsFrom, seat_ended}
-use Rattle.mh_scan.specs.Crew.{IsFound, HasWorked}
+use Rattle.mh_scan.specs.Auxiliary.{IsFound, HasWorked}
 use Rattle.mh_scan.proofs.PieceLemmas.{gathered-more}
 use Rattle.mh_scan.proofs.crew.gather.Goals as goal
 

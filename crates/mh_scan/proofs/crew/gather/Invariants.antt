@@ -1,7 +1,7 @@
 use Rattle.std.proofs.Common.{◌≡◌, ℕ, ◌<◌, ◌+◌, true, All, vec_len}
 use Rattle.mh_model.specs.History.{times_drawn}
 use Rattle.mh_claims.specs.Seats.{DrawsFrom, seat_ended}
-use Rattle.mh_scan.specs.Crew.{IsFound, HasWorked, times_found, drawn_by}
+use Rattle.mh_scan.specs.Auxiliary.{IsFound, HasWorked, times_found, drawn_by}
 use Rattle.mh_scan.proofs.crew.gather.Given as goal
 
 abbrev pub invariant-loop-worker : goal.invariant-loop-worker

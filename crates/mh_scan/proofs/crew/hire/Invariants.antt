@@ -1,6 +1,6 @@
 use Rattle.std.proofs.Common.{◌≡◌, ◌+◌, All, vec_len}
 use Rattle.mh_claims.specs.Seats.{IsBeforeItsDraws}
-use Rattle.mh_scan.specs.Crew.{IsHired}
+use Rattle.mh_scan.specs.Auxiliary.{IsHired}
 use Rattle.mh_scan.proofs.crew.hire.Given as goal
 
 abbrev pub invariant-loop-seat : goal.invariant-loop-seat

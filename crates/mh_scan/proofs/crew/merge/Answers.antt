@@ -1,5 +1,5 @@
 use Rattle.std.proofs.Common.{arith, ◌≡◌, ℕ, ◌*◌, List, take, subst, sym, ◌∙◌}
-use Rattle.mh_scan.specs.{Asking.AreAnswers, Crew.{piece_at, IsFound}}
+use Rattle.mh_scan.specs.{Asking.AreAnswers, Auxiliary.{piece_at, IsFound}}
 use Rattle.mh_scan.proofs.PieceLemmas.{piece-more, all-remove, times_found-still, answers-append}
 use Rattle.mh_scan.proofs.crew.merge.Goals as goal
 

@@ -1,5 +1,5 @@
 use Rattle.std.proofs.Common.{ℕ, ◌<◌, ◌≤◌, ◌*◌, All, take, length}
-use Rattle.mh_scan.specs.{Asking.AreAnswers, Crew.{IsFound, piece_count, times_found}}
+use Rattle.mh_scan.specs.{Asking.AreAnswers, Auxiliary.{IsFound, piece_count, times_found}}
 use Rattle.mh_scan.proofs.crew.merge.Given as goal
 
 abbrev pub invariant-loop-piece : goal.invariant-loop-piece

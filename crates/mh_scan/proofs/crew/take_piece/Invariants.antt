@@ -1,5 +1,5 @@
 use Rattle.std.proofs.Common.{◌≡◌, ◌<◌, drop}
-use Rattle.mh_scan.specs.Crew.{times_found}
+use Rattle.mh_scan.specs.Auxiliary.{times_found}
 use Rattle.mh_scan.proofs.crew.take_piece.Given as goal
 
 abbrev pub invariant-loop-index : goal.invariant-loop-index

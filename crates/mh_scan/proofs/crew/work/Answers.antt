@@ -1,5 +1,5 @@
 use Rattle.std.proofs.{Common.{rules, ◌≡◌, ℕ, [], ◌∷◌, ◌++◌, List, sym, subst, ap, ◌∙◌}, lemmas.List.Elements.All-push}
-use Rattle.mh_scan.specs.{Scanning.AreScannable, Asking.AreAnswers, Crew.{piece_at, IsFound, pieces_of}}
+use Rattle.mh_scan.specs.{Scanning.AreScannable, Asking.AreAnswers, Auxiliary.{piece_at, IsFound, pieces_of}}
 use Rattle.mh_scan.specs.declared.crew.Found.{Found}
 use Rattle.mh_scan.proofs.PieceLemmas.{piece-scannable, pieces_of-push}
 use Rattle.mh_scan.proofs.crew.work.Goals as goal

@@ -1,6 +1,6 @@
 use Rattle.std.proofs.Common.{◌≡◌, ◌-◌, All, false}
 use Rattle.mh_claims.specs.Seats.{DrawsFrom, seat_ended, next_of}
-use Rattle.mh_scan.specs.Crew.{IsFound, pieces_of}
+use Rattle.mh_scan.specs.Auxiliary.{IsFound, pieces_of}
 use Rattle.mh_scan.proofs.crew.work.Given as goal
 
 abbrev pub invariant-loop-piece : goal.invariant-loop-piece

@@ -1,5 +1,5 @@
 use Rattle.std.proofs.Common.{◌≡◌, ℕ, subst, arith}
-use Rattle.mh_size_runs.specs.Spans.{IsFew}
+use Rattle.mh_size_runs.specs.Auxiliary.{IsFew}
 use Rattle.mh_size_runs.proofs.fewest.doubled.Goals as goal
 
 pub returns : goal.returns

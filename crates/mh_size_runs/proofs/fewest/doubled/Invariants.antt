@@ -1,5 +1,5 @@
 use Rattle.std.proofs.Common.{◌-◌, ◌≤◌}
-use Rattle.mh_size_runs.specs.Spans.{IsFew}
+use Rattle.mh_size_runs.specs.Auxiliary.{IsFew}
 use Rattle.mh_size_runs.proofs.fewest.doubled.Given as goal
 
 abbrev pub invariant-loop-few : goal.invariant-loop-few

@@ -1,5 +1,5 @@
 use Rattle.std.proofs.Common.{◌-◌}
-use Rattle.mh_size_runs.specs.Spans.{IsSpan}
+use Rattle.mh_size_runs.specs.Auxiliary.{IsSpan}
 use Rattle.mh_size_runs.proofs.fewest.halved.Given as goal
 
 abbrev pub invariant-loop-span : goal.invariant-loop-span

@@ -1,5 +1,5 @@
 use Rattle.std.proofs.Common.{◌≡◌, ◌+◌, drop}
-use Rattle.mh_size_runs.specs.Samples.{stage_of}
+use Rattle.mh_size_runs.specs.Auxiliary.{stage_of}
 use Rattle.mh_size_runs.proofs.LiveLemmas.{HasFound}
 use Rattle.mh_size_runs.proofs.live.look_through.Given as goal
 

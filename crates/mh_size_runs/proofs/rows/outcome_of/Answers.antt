@@ -1,6 +1,6 @@
 use Rattle.std.proofs.Common.{◌≡◌, ◌∙◌, ◌+◌, Some, sym, subst, arith}
 use Rattle.std.specs.Option.{option_or}
-use Rattle.mh_size_runs.specs.Rows.{IsLooked}
+use Rattle.mh_size_runs.specs.Auxiliary.{IsLooked}
 use Rattle.mh_size_runs.proofs.RowLemmas.{HasLooked, chosen-last, chosen-now, full-at, is-no, is-roomy, looked-full, looked-roomless, seen-with}
 use Rattle.mh_size_runs.proofs.rows.outcome_of.Goals.{in-Full, in-Fits}
 use Rattle.mh_size_runs.proofs.rows.outcome_of.Goals as goal

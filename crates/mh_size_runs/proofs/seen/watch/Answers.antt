@@ -3,7 +3,7 @@ use Rattle.std.specs.Prelude.{OnOk}
 use Rattle.mh_laws.proofs.bounds.CyclesInTime.{StaysInBounds}
 use Rattle.mh_machine.specs.Running.{Running}
 use Rattle.mh_model.specs.Limits.{most_entries}
-use Rattle.mh_size_runs.specs.{declared.sample.Sample.Sample, Samples.ended_between}
+use Rattle.mh_size_runs.specs.{declared.sample.Sample.Sample, Auxiliary.ended_between}
 use Rattle.mh_size_runs.proofs.BoundLemmas.{few_quanta, in_time, stays-first, stays-more}
 use Rattle.mh_size_runs.proofs.SeenLemmas.{HasSeen, after-all, facts-all, one_at_most, seen-first, seen-noted}
 use Rattle.mh_size_runs.proofs.seen.watch.Goals as goal

@@ -1,6 +1,6 @@
 use Rattle.std.proofs.Common.{◌≡◌, ◌*◌, ◌≤◌, drop}
 use Rattle.mh_laws.proofs.bounds.CyclesInTime.{StaysInBounds}
-use Rattle.mh_size_runs.specs.Samples.{sample_of}
+use Rattle.mh_size_runs.specs.Auxiliary.{sample_of}
 use Rattle.mh_size_runs.proofs.SeenLemmas.{HasSeen}
 use Rattle.mh_size_runs.proofs.seen.watch.Given as goal
 

@@ -1,5 +1,5 @@
 use Rattle.std.proofs.{Common.{◌≡◌, Err, length, refl, ap, subst, arith}, lemmas.Result.err_from_is_err_and}
-use Rattle.mh_state.specs.Whole.{HasDone}
+use Rattle.mh_state.specs.Auxiliary.{HasDone}
 use Rattle.mh_state.proofs.RunLemmas.{one-done, stopped-at}
 use Rattle.mh_state.proofs.run.go_on_with_all.Goals as goal
 

@@ -1,5 +1,5 @@
 use Rattle.mh_model.specs.declared.config.Config.{Config}
-use Rattle.mh_state.specs.Whole.{HasDone}
+use Rattle.mh_state.specs.Auxiliary.{HasDone}
 use Rattle.mh_state.proofs.run.go_on_with_all.Given as goal
 
 abbrev pub invariant-loop-event : goal.invariant-loop-event

@@ -1,4 +1,4 @@
-use Rattle.mh_sweep.specs.Swept.{AreFree}
+use Rattle.mh_sweep.specs.Auxiliary.{AreFree}
 use Rattle.mh_sweep.proofs.sweep.free_run.Given as goal
 
 abbrev pub invariant-loop-count : goal.invariant-loop-count

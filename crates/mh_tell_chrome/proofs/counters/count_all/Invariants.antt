@@ -1,5 +1,5 @@
 use Rattle.std.proofs.Common.{◌≡◌, ◌+◌, ◌≤◌, drop}
-use Rattle.mh_tell_chrome.specs.Deeds.{counted_all, total}
+use Rattle.mh_tell_chrome.specs.{Deeds.counted_all, Auxiliary.total}
 use Rattle.mh_tell_chrome.proofs.counters.count_all.Given as goal
 
 abbrev pub invariant-loop-deed : goal.invariant-loop-deed

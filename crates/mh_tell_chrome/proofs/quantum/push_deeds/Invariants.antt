@@ -1,6 +1,6 @@
 use Rattle.std.proofs.Common.{◌≡◌, ◌+◌, ◌≤◌, ◌++◌, drop}
 use Rattle.std.specs.String.{string_bytes}
-use Rattle.mh_tell_chrome.specs.{Deeds.{course_after_all, deeds_events, total}, TraceEvents.next_texts}
+use Rattle.mh_tell_chrome.specs.{Deeds.{course_after_all, deeds_events}, Auxiliary.total, TraceEvents.next_texts}
 use Rattle.mh_tell_chrome.proofs.quantum.push_deeds.Given as goal
 
 abbrev pub invariant-loop-deed : goal.invariant-loop-deed

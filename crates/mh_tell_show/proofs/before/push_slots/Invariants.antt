@@ -1,6 +1,6 @@
 use Rattle.std.proofs.Common.{◌≡◌, ◌++◌, codes, drop, flat_map}
 use Rattle.std.specs.String.{string_bytes}
-use Rattle.mh_tell_show.specs.{Before.{slot_rows, slots_at}, Rows.row_text}
+use Rattle.mh_tell_show.specs.{Before.slot_rows, Auxiliary.slots_at, Rows.row_text}
 use Rattle.mh_tell_show.proofs.before.push_slots.Given as goal
 
 abbrev pub invariant-loop-slot : goal.invariant-loop-slot

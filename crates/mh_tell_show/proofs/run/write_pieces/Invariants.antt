@@ -1,6 +1,6 @@
 use Rattle.std.proofs.Common.{take}
 use Rattle.mh_text.specs.Devices.{Takes}
-use Rattle.mh_tell_show.specs.Page.{joined_pieces}
+use Rattle.mh_tell_show.specs.Auxiliary.{joined_pieces}
 use Rattle.mh_tell_show.proofs.run.write_pieces.Given as goal
 
 abbrev pub invariant-loop-piece : goal.invariant-loop-piece

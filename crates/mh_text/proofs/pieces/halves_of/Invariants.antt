@@ -1,5 +1,5 @@
 use Rattle.std.proofs.Common.{length}
-use Rattle.mh_text.specs.Pieces.{text_shown}
+use Rattle.mh_text.specs.Auxiliary.{text_shown}
 use Rattle.mh_text.proofs.HalfLemmas.{Scanned}
 use Rattle.mh_text.proofs.pieces.halves_of.Given as goal
 

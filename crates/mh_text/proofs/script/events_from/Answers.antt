@@ -1,4 +1,4 @@
-use Rattle.std.proofs.{Common.{◌≡◌, [], ap, refl, sym, ◌∙◌}, lemmas.Bool.false≢true}
+use Rattle.std.proofs.{Common.{arith, ◌≡◌, [], ap, refl, sym, ◌∙◌}, lemmas.Bool.false≢true}
 use Rattle.mh_text.proofs.ScriptLemmas.{walks_blank, walks_known, walks_calls, walks_called, walks_asks, walks_wrong, walks_event, walks_end, walks_rest, event_fewer}
 use Rattle.mh_text.specs.Pieces.{Lines}
 use Rattle.mh_text.proofs.script.events_from.Goals as goal
@@ -42,9 +42,7 @@ returns-else-is_empty-clause-line c =
     rw (c.number-else-is_empty.ensures, same) (walks_rest _ _ _ _ c.loop-taken.invariant c.in_default.ensures.end some)
 
 pub loop-taken-preserved-in-Continue-1 : goal.loop-taken-preserved-in-Continue-1
-loop-taken-preserved-in-Continue-1 c =
-    let done = walks_known _ _ _ _ _ _ c.loop-taken.invariant (rw c.in-Plain.is at c.in-Some.ensures.next) in
-    rw c.in_ok-push-in-Plain.ensures.items done
+loop-taken-preserved-in-Continue-1 c = grind (arith, walks_known)
 
 pub loop-taken-smaller-in-Continue-1 : goal.loop-taken-smaller-in-Continue-1
 loop-taken-smaller-in-Continue-1 c = event_fewer _ _ _ _ (rw c.in-Plain.is at c.in-Some.ensures.next)

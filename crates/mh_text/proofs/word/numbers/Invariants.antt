@@ -1,6 +1,6 @@
 use Rattle.std.proofs.Common.{◌≡◌, ◌≤◌, ◌+◌, ◌++◌, length, option_map}
 use Rattle.mh_model.specs.Bytes.{numbers}
-use Rattle.mh_text.specs.Pieces.{text_shown, words_left}
+use Rattle.mh_text.specs.Auxiliary.{text_shown, words_left}
 use Rattle.mh_text.proofs.word.numbers.Given as goal
 
 abbrev pub invariant-loop-left : goal.invariant-loop-left

@@ -1,5 +1,5 @@
 use Rattle.std.proofs.Common.{◌∙◌, length, max, subst, sym, arith}
-use Rattle.mh_window_curve.specs.Places.{AddsPlace, ArePlaced}
+use Rattle.mh_window_curve.specs.{Auxiliary.AddsPlace, Places.ArePlaced}
 use Rattle.mh_window_curve.proofs.PlaceLemmas.{goes_on, pauses-some, places_all, places_more}
 use Rattle.mh_window_curve.proofs.places.place_points.Goals as goal
 

@@ -3,14 +3,12 @@ use Rattle.mh_model.specs.{declared.birth.TheConstants.LIFE, Trace.mutator_count
 use Rattle.mh_report.specs.Slides.{passings_of}
 use Rattle.mh_report.proofs.SegmentLemmas.{counts_whole}
 use Rattle.mh_run_laws.proofs.windows.StretchLemmas.{units_few}
-use Rattle.mh_windows.specs.Lowest.{IsLowest, LowestState, first_lowest, slid_over}
+use Rattle.mh_windows.specs.{Lowest.{IsLowest, LowestState, slid_over}, Auxiliary.first_lowest}
 use Rattle.mh_windows.proofs.LowestLemmas.{lowest_found, lowest_is_least, same_state}
 use Rattle.mh_windows.proofs.lowest.lowest_of.Goals as goal
 
 pub overflow_add-letters : goal.overflow_add-letters
-overflow_add-letters c =
-    let life : LIFE ≡ 4611686018427387904 = refl in
-    omega (arith, life, counts_whole c.args.trace.now.trace.letters, c.mutator_count.ensures, c.collector_count.ensures, c.requires)
+overflow_add-letters c = grind (arith, counts_whole)
 
 pub returns-then-window-letters-clause-none : goal.returns-then-window-letters-clause-none
 returns-then-window-letters-clause-none c = omega (arith, counts_whole c.args.trace.now.trace.letters, c.mutator_count.ensures, c.collector_count.ensures, c.if-window-letters.true)

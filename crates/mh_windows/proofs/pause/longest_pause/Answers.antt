@@ -1,19 +1,14 @@
-use Rattle.std.proofs.Common.{◌≡◌, subst, sym, refl, arith}
-use Rattle.mh_model.specs.declared.birth.TheConstants.{LIFE}
+use Rattle.std.proofs.Common.{subst, sym, refl, arith}
 use Rattle.mh_report.proofs.SegmentLemmas.{counts_whole}
 use Rattle.mh_windows.specs.Pauses.{IsLongest, PauseState}
 use Rattle.mh_windows.proofs.PauseLemmas.{goes_first, longest_found}
 use Rattle.mh_windows.proofs.pause.longest_pause.Goals as goal
 
 pub overflow_add-going : goal.overflow_add-going
-overflow_add-going c =
-    let life : LIFE ≡ 4611686018427387904 = refl in
-    omega (arith, life, counts_whole c.args.trace.now.trace.letters, c.mutator_count.ensures, c.collector_count.ensures, c.requires)
+overflow_add-going c = grind (arith, counts_whole)
 
 pub invariant_of-going : goal.invariant_of-going
-invariant_of-going c =
-    let life : LIFE ≡ 4611686018427387904 = refl in
-    (omega (arith, life, counts_whole c.args.trace.now.trace.letters, c.mutator_count.ensures, c.collector_count.ensures, c.requires), omega arith)
+invariant_of-going c = grind (arith, counts_whole)
 
 pub slide-requires-clause-room : goal.slide-requires-clause-room
 slide-requires-clause-room c = omega (arith, counts_whole c.args.trace.now.trace.letters, c.mutator_count.ensures, c.collector_count.ensures)

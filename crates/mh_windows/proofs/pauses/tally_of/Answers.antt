@@ -1,18 +1,13 @@
-use Rattle.std.proofs.Common.{◌≡◌, refl, arith}
-use Rattle.mh_model.specs.declared.birth.TheConstants.{LIFE}
+use Rattle.std.proofs.Common.{refl, arith}
 use Rattle.mh_report.proofs.SegmentLemmas.{counts_whole}
 use Rattle.mh_windows.proofs.LengthLemmas.{pauses_counted, within_counted}
 use Rattle.mh_windows.proofs.pauses.tally_of.Goals as goal
 
 pub overflow_add-counting : goal.overflow_add-counting
-overflow_add-counting c =
-    let life : LIFE ≡ 4611686018427387904 = refl in
-    omega (arith, life, counts_whole c.args.trace.now.trace.letters, c.mutator_count.ensures, c.collector_count.ensures, c.requires)
+overflow_add-counting c = grind (arith, counts_whole)
 
 pub invariant_of-counting : goal.invariant_of-counting
-invariant_of-counting c =
-    let life : LIFE ≡ 4611686018427387904 = refl in
-    (omega (arith, life, counts_whole c.args.trace.now.trace.letters, c.mutator_count.ensures, c.collector_count.ensures, c.requires), omega arith)
+invariant_of-counting c = grind (arith, counts_whole)
 
 pub slide-requires-clause-room : goal.slide-requires-clause-room
 slide-requires-clause-room c = omega (arith, counts_whole c.args.trace.now.trace.letters, c.mutator_count.ensures, c.collector_count.ensures)

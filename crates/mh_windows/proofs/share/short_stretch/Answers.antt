@@ -9,21 +9,16 @@ use Rattle.mh_windows.proofs.ShareLemmas.{first_state, no_longer_than, none_foun
 use Rattle.mh_windows.proofs.share.short_stretch.Goals as goal
 
 pub overflow_add-letters : goal.overflow_add-letters
-overflow_add-letters c =
-    let life : LIFE ≡ 4611686018427387904 = refl in
-    omega (arith, life, counts_whole c.args.trace.now.trace.letters, c.mutator_count.ensures, c.collector_count.ensures, c.requires.short)
+overflow_add-letters c = grind (arith, counts_whole)
 
 pub returns-then-from-letters-clause-none : goal.returns-then-from-letters-clause-none
-returns-then-from-letters-clause-none c =
-    no_longer_than c.args.trace.now.trace.letters c.args.part c.args.from (omega (arith, counts_whole c.args.trace.now.trace.letters, c.mutator_count.ensures, c.collector_count.ensures, c.if-from-letters.true))
+returns-then-from-letters-clause-none c = grind (arith, no_longer_than, counts_whole)
 
 pub units_in_first-requires : goal.units_in_first-requires
 units_in_first-requires c = omega (arith, counts_whole c.args.trace.now.trace.letters, c.mutator_count.ensures, c.collector_count.ensures, c.if-from-letters.false)
 
 pub returns-in-Some-clause-some : goal.returns-in-Some-clause-some
-returns-in-Some-clause-some c =
-    let room : c.args.from ≤ length c.args.trace.now.trace.letters = omega (arith, counts_whole c.args.trace.now.trace.letters, c.mutator_count.ensures, c.collector_count.ensures, c.if-from-letters.false) in
-    short_first c.args.trace.now.trace.letters c.args.part c.args.from c.units_in_first.result c.in-Some.stretch room c.units_in_first.ensures c.in-Some.ensures.0 c.in-Some.ensures.1
+returns-in-Some-clause-some c = grind (arith, counts_whole, short_first)
 
 pub invariant_of-sharing : goal.invariant_of-sharing
 invariant_of-sharing c =

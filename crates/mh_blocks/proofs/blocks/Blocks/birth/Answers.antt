@@ -1,25 +1,17 @@
 use Rattle.std.proofs.Common.{◌∙◌, sym, arith}
 use Rattle.mh_table_laws.proofs.PageMapLemmas.{is_taken-table_map}
 use Rattle.mh_blocks.proofs.ReadLemmas.{words_there, header_within, birth_is}
-use Rattle.mh_blocks.specs.Words.{block_of}
+use Rattle.mh_blocks.specs.Auxiliary.{block_of}
 use Rattle.mh_blocks.proofs.blocks.Blocks.birth.Goals as goal
 
 pub address-address-requires : goal.address-address-requires
 address-address-requires c = let there = rw (← c.self.view_is) at c.requires in sym (is_taken-table_map block_of c.self.inside.pages _) ∙ there
 
 pub word_from-requires-clause-within : goal.word_from-requires-clause-within
-word_from-requires-clause-within c =
-    let there = rw (← c.self.view_is) at c.requires in
-    rw c.address-address.ensures (omega (arith, header_within _ _ (words_there _ _ c.self.invariant.0.packed there)))
+word_from-requires-clause-within c = grind (arith, header_within, words_there)
 
 pub overflow_sub-result : goal.overflow_sub-result
-overflow_sub-result c =
-    let there = rw (← c.self.view_is) at c.requires in
-    let read = rw c.address-address.ensures at c.word_from.ensures in
-    omega (arith, read, (words_there _ _ c.self.invariant.0.packed there).packed.born)
+overflow_sub-result c = grind (arith, words_there)
 
 pub returns : goal.returns
-returns c =
-    let there = rw (← c.self.view_is) at c.requires in
-    let read = rw c.address-address.ensures at c.word_from.ensures in
-    rw (← c.self.view_is, read) (birth_is _ _ (words_there _ _ c.self.invariant.0.packed there))
+returns c = grind (arith, birth_is, words_there)

@@ -1,7 +1,7 @@
 use Rattle.mh_blocks.proofs.{IndexedLemmas.flagged_indexed, InvariantLemmas.flagged_counted}
 use Rattle.std.proofs.Common.{◌∙◌, sym}
 use Rattle.mh_table_laws.proofs.{TableMapLemmas.with_flag-table_map, PageMapLemmas.is_used-table_map}
-use Rattle.mh_blocks.specs.Words.{block_of}
+use Rattle.mh_blocks.specs.Auxiliary.{block_of}
 use Rattle.mh_blocks.proofs.blocks.Blocks.flag.Goals as goal
 
 pub flag-requires : goal.flag-requires

@@ -1,7 +1,7 @@
 use Rattle.mh_blocks.proofs.{IndexedLemmas.freed_indexed, InvariantLemmas.freed_counted}
 use Rattle.std.proofs.Common.{◌∙◌, sym}
 use Rattle.mh_table_laws.proofs.{TableMapLemmas.freed-table_map, PageMapLemmas.{is_used-table_map, count_at-table_map}}
-use Rattle.mh_blocks.specs.Words.{block_of}
+use Rattle.mh_blocks.specs.Auxiliary.{block_of}
 use Rattle.mh_blocks.proofs.blocks.Blocks.free_page.Goals as goal
 
 pub free_page-requires-clause-used : goal.free_page-requires-clause-used

@@ -1,7 +1,7 @@
 use Rattle.std.proofs.Common.{◌∙◌, sym}
 use Rattle.mh_table_laws.proofs.PageMapLemmas.{have_their_slots}
 use Rattle.mh_blocks.proofs.FreePlaceLemmas.{free_places-table_map}
-use Rattle.mh_blocks.specs.Words.{block_of}
+use Rattle.mh_blocks.specs.Auxiliary.{block_of}
 use Rattle.mh_blocks.proofs.blocks.Blocks.free_places.Goals as goal
 
 pub returns-clause-count : goal.returns-clause-count

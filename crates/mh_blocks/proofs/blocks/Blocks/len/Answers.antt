@@ -1,6 +1,6 @@
 use Rattle.std.proofs.Common.{◌∙◌, sym}
 use Rattle.mh_table_laws.proofs.{TableMapLemmas.length-table_map, PageMapLemmas.have_their_slots}
-use Rattle.mh_blocks.specs.Words.{block_of}
+use Rattle.mh_blocks.specs.Auxiliary.{block_of}
 use Rattle.mh_blocks.proofs.blocks.Blocks.len.Goals as goal
 
 pub returns-clause-count : goal.returns-clause-count

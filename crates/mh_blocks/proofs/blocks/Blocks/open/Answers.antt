@@ -1,6 +1,6 @@
 use Rattle.mh_blocks.proofs.{IndexedLemmas.empty_indexed, PackedLemmas.empty_blocks, InvariantLemmas.empty_counted}
 use Rattle.std.proofs.Common.{◌∙◌, ap}
-use Rattle.mh_blocks.specs.Words.{block_table}
+use Rattle.mh_blocks.specs.Auxiliary.{block_table}
 use Rattle.mh_blocks.proofs.blocks.Blocks.open.Goals as goal
 
 pub invariant_of-result : goal.invariant_of-result

@@ -1,6 +1,6 @@
 use Rattle.std.proofs.Common.{◌∙◌, sym}
 use Rattle.mh_table_laws.proofs.PageMapLemmas.{least_place-table_map, found_above}
-use Rattle.mh_blocks.specs.Words.{block_of}
+use Rattle.mh_blocks.specs.Auxiliary.{block_of}
 use Rattle.mh_blocks.proofs.blocks.Blocks.place.Goals as goal
 
 pub returns-clause-place : goal.returns-clause-place

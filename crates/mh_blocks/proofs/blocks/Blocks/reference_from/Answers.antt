@@ -1,7 +1,7 @@
 use Rattle.std.proofs.Common.{◌∙◌, arith, ap}
 use Rattle.mh_blocks.proofs.AddressMap.{address_in-table_map}
 use Rattle.mh_blocks.proofs.ReadLemmas.{has_reference, reference_within, reference_at_is}
-use Rattle.mh_blocks.specs.Words.{place_in, block_of}
+use Rattle.mh_blocks.specs.Auxiliary.{place_in, block_of}
 use Rattle.mh_blocks.proofs.blocks.Blocks.reference_from.Goals as goal
 
 pub overflow_add-index : goal.overflow_add-index

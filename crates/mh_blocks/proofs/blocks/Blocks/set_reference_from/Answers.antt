@@ -3,7 +3,7 @@ use Rattle.mh_blocks.proofs.InvariantLemmas.{reference_counted}
 use Rattle.mh_blocks.proofs.ReadLemmas.{has_reference, reference_within, small_target}
 use Rattle.mh_blocks.proofs.WriteLemmas.{with_word-reference}
 use Rattle.std.proofs.Common.{◌∙◌, arith}
-use Rattle.mh_blocks.specs.Words.{block_of}
+use Rattle.mh_blocks.specs.Auxiliary.{block_of}
 use Rattle.mh_blocks.proofs.blocks.Blocks.set_reference_from.Goals as goal
 
 pub overflow_add-index : goal.overflow_add-index

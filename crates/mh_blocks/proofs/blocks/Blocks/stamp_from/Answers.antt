@@ -1,17 +1,13 @@
 use Rattle.std.proofs.Common.{◌∙◌, arith}
 use Rattle.mh_blocks.proofs.{AddressMap.address_in-table_map, ReadLemmas.{words_there, header_within, stamp_is}}
-use Rattle.mh_blocks.specs.Words.{block_of}
+use Rattle.mh_blocks.specs.Auxiliary.{block_of}
 use Rattle.mh_blocks.proofs.blocks.Blocks.stamp_from.Goals as goal
 
 pub word_from-requires-clause-at : goal.word_from-requires-clause-at
 word_from-requires-clause-at c = let at = rw (← c.self.view_is) at c.requires.at in at ∙ address_in-table_map block_of c.self.inside.pages _
 
 pub word_from-requires-clause-within : goal.word_from-requires-clause-within
-word_from-requires-clause-within c =
-    let there = rw (← c.self.view_is) at c.requires.there in
-    omega (arith, header_within _ _ (words_there _ _ c.self.invariant.0.packed there))
+word_from-requires-clause-within c = grind (arith, header_within, words_there)
 
 pub returns : goal.returns
-returns c =
-    let there = rw (← c.self.view_is) at c.requires.there in
-    rw (← c.self.view_is) (c.word_from.ensures ∙ stamp_is _ _ (words_there _ _ c.self.invariant.0.packed there))
+returns c = grind (arith, stamp_is, words_there)

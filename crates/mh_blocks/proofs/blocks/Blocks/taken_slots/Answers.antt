@@ -1,5 +1,5 @@
 use Rattle.std.proofs.Common.{◌∙◌, sym, arith}
-use Rattle.mh_blocks.specs.Words.{block_of}
+use Rattle.mh_blocks.specs.Auxiliary.{block_of}
 use Rattle.mh_table_laws.proofs.{TableMapLemmas.length-table_map, PageMapLemmas.is_taken-table_map}
 use Rattle.mh_blocks.proofs.blocks.Blocks.taken_slots.Goals as goal
 

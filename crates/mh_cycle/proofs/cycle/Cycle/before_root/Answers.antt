@@ -1,12 +1,10 @@
-use Rattle.std.proofs.Common.{◌∙◌, sym}
+use Rattle.std.proofs.Common.{arith, ◌∙◌, sym}
 use Rattle.mh_grey.proofs.ShadeLemmas.{marked-apart}
 use Rattle.mh_cycle.proofs.{FrameLemmas.framed-shaded, ReadyLemmas.are-marked, SnapshotLemmas.{root-kept, kept-steady}}
 use Rattle.mh_cycle.proofs.cycle.Cycle.before_root.Goals as goal
 
 pub shade-requires-clause-apart : goal.shade-requires-clause-apart
-shade-requires-clause-apart c =
-    let steady = rw (← c.self.view_is) at c.requires.steady in
-    marked-apart _ _ _ _ (are-marked c.references_lead_on.ensures _ steady)
+shade-requires-clause-apart c = grind (arith, marked-apart, are-marked)
 
 pub invariant_of-self : goal.invariant_of-self
 invariant_of-self c = rw (c.shade.ensures.table, c.shade.ensures.grey) (framed-shaded _ _ _ _ _ _ _ c.self.invariant)

@@ -1,4 +1,4 @@
-use Rattle.std.proofs.Common.{◌≡◌, ◌+◌, ◌-◌, ◌++◌, false, refl, arith}
+use Rattle.std.proofs.Common.{◌+◌, ◌-◌, ◌++◌, false, refl, arith}
 use Rattle.mh_model.specs.Deeds.{deeds_of_steps}
 use Rattle.mh_cycle.proofs.StrideLemmas.{advance-turn, advance-by_turn}
 use Rattle.mh_cycle.proofs.cycle.Cycle.mark.Goals as goal
@@ -13,9 +13,7 @@ pub returns-clause-advance : goal.returns-clause-advance
 returns-clause-advance g c = advance-by_turn _ _ _ _ _ _ _ c.mark_by_turns-spent.ensures.advance refl c.mark_alone-rest.ensures.turn
 
 pub returns-clause-from : goal.returns-clause-from
-returns-clause-from g c =
-    let left : c.args.left - (c.mark_by_turns-spent.result + c.mark_alone-rest.result) ≡ c.args.left - c.mark_by_turns-spent.result - c.mark_alone-rest.result = omega arith in
-    rw left c.mark_alone-rest.ensures.from
+returns-clause-from g c = grind arith
 
 -- a log that keeps nothing has any deeds
 pub returns-clause-told : goal.returns-clause-told

@@ -1,6 +1,6 @@
 use Rattle.std.proofs.Common.{◌-◌, false}
 use Rattle.mh_model.specs.declared.cycle.Phase.TheVariants.{Mark}
-use Rattle.mh_cycle.specs.Advance.{IsFrom, IsAdvance}
+use Rattle.mh_cycle.specs.Auxiliary.{IsFrom, IsAdvance}
 use Rattle.mh_cycle.proofs.cycle.Cycle.mark_by_turns.Given as goal
 
 abbrev pub invariant-loop-self : goal.invariant-loop-self

@@ -1,4 +1,4 @@
-use Rattle.std.proofs.Common.{false, refl, sym, ap, subst}
+use Rattle.std.proofs.Common.{arith, false, refl, sym, ap, subst}
 use Rattle.mh_model.specs.{Collector.marking_of, Deeds.{deeds_in, mark_deeds}}
 use Rattle.mh_deeds.specs.Logs.{Told}
 use Rattle.mh_cycle.specs.State.{CycleState}
@@ -15,9 +15,7 @@ pub invariant_of-self : goal.invariant_of-self
 invariant_of-self g c = framed-next _ _ _ _ _ _ _ _ c.self.invariant (rw c.mark_step.ensures.table (length-mark_step _)) (rw (c.touch.ensures, c.mark_step.ensures.grey) refl) c.after_mark-self-inside.ensures
 
 pub returns-clause-after : goal.returns-clause-after
-returns-clause-after g c =
-    let next = rw (c.touch.ensures, c.mark_step.ensures.grey) at c.after_mark-self-inside.ensures in
-    rw (mark-after c.args.self.now.collector c.after_mark-self-inside.result c.requires.phase (rw (← c.self.view_is) next), ← c.self.view_is, c.mark_step.ensures.table, c.touch.ensures, c.mark_step.ensures.grey) refl
+returns-clause-after g c = grind (arith, mark-after)
 
 pub returns-clause-told : goal.returns-clause-told
 returns-clause-told g c =

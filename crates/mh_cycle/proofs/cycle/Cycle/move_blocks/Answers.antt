@@ -1,11 +1,11 @@
-use Rattle.std.proofs.Common.{◌≡◌, ◌∙◌, ◌<◌, ◌-◌, ◌||◌, ◌++◌, false, inl, sym, refl, ap, subst, arith, is_some}
+use Rattle.std.proofs.Common.{◌≡◌, ◌∙◌, ◌-◌, ◌||◌, ◌++◌, false, inl, sym, refl, ap, subst, arith, is_some}
 use Rattle.std.proofs.lemmas.Bool.{true≢false}
 use Rattle.mh_model.specs.{declared.cycle.Phase.TheVariants.Defrag, Collector.{is_idle, forwarded_slots}}
 use Rattle.mh_model.specs.Deeds.{deeds_in, step_deeds, deeds_of_steps}
-use Rattle.mh_deeds.specs.Logs.{Told, Leads}
+use Rattle.mh_deeds.specs.{Logs.Told, Auxiliary.Leads}
 use Rattle.mh_deeds.proofs.ToldLemmas.{leads-ends}
 use Rattle.mh_laws.proofs.costs.Quanta.{step_cost-positive}
-use Rattle.mh_cycle.specs.State.{CycleState, with_forwarded}
+use Rattle.mh_cycle.specs.{State.CycleState, Auxiliary.with_forwarded}
 use Rattle.mh_cycle.proofs.{DeedLemmas.deeds-over, StepLemmas.{cost-is, moving-defrag}}
 use Rattle.mh_cycle.proofs.TellingLemmas.{step-told, leads-starts, leads-step, defrag-phase}
 use Rattle.mh_cycle.proofs.StrideLemmas.{advance-ends, later-stride, over, over-past}
@@ -15,10 +15,7 @@ use Rattle.mh_cycle.proofs.cycle.Cycle.move_blocks.Goals.{then-has_moved, else-h
 use Rattle.mh_cycle.proofs.cycle.Cycle.move_blocks.Goals as goal
 
 pub loop-log-smaller : goal.loop-log-smaller
-loop-log-smaller g c =
-    let phase = c.is_in.ensures.yes c.loop-log-test.true in
-    let some : 0 < c.move_cost-cost.result = rw c.move_cost-cost.ensures (step_cost-positive _ _ (ap is_idle phase)) in
-    omega (arith, some, c.if-left-spent.false)
+loop-log-smaller g c = grind (arith, step_cost-positive)
 
 pub loop-log-init : goal.loop-log-init
 loop-log-init g c = record {

@@ -1,8 +1,8 @@
 use Rattle.std.proofs.Common.{◌≡◌, ◌⊎◌, ◌-◌, ◌≤◌, true, false}
 use Rattle.mh_model.specs.{declared.cycle.Phase.TheVariants.Defrag, Collector.forwarded_slots, Deeds.deeds_of_steps}
 use Rattle.mh_roots.specs.Roots.{SlotsLead}
-use Rattle.mh_deeds.specs.Logs.{Leads}
-use Rattle.mh_cycle.specs.{State.{with_forwarded, forwarded_state}, Advance.{order, is_over, IsAdvance}}
+use Rattle.mh_deeds.specs.Auxiliary.{Leads}
+use Rattle.mh_cycle.specs.Auxiliary.{with_forwarded, forwarded_state, order, is_over, IsAdvance}
 use Rattle.mh_cycle.proofs.cycle.Cycle.move_blocks.Given as goal
 
 abbrev pub invariant-loop-log : goal.invariant-loop-log

@@ -7,11 +7,7 @@ use Rattle.mh_cycle.proofs.TellingLemmas.{leads-starts, leads-step}
 use Rattle.mh_cycle.proofs.cycle.Cycle.scan_roots.Goals as goal
 
 pub loop-self-init : goal.loop-self-init
-loop-self-init g c = record {
-  advance = advance-turn _ _ _ _ (turn-none c.args.left c.args.self.now c.requires.steady);
-  from = inl (omega arith);
-  told = leads-starts g.L.Log.has c.args.left c.args.self.now.collector c.args.log.now;
-}
+loop-self-init g c = grind (arith, advance-turn, turn-none, inl, leads-starts)
 
 pub loop-self-preserved : goal.loop-self-preserved
 loop-self-preserved g c =

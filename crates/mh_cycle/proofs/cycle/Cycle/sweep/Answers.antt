@@ -1,13 +1,11 @@
-use Rattle.std.proofs.Common.{◌≡◌, ◌-◌, inr, refl, arith, false}
+use Rattle.std.proofs.Common.{◌-◌, inr, refl, arith, false}
 use Rattle.mh_model.specs.declared.cycle.Phase.TheVariants.{Sweep}
 use Rattle.mh_cycle.proofs.StrideLemmas.{advance-turn, turn-none, advance-run, from-run, over-nothing}
 use Rattle.mh_cycle.proofs.TellingLemmas.{leads-starts, leads-then}
 use Rattle.mh_cycle.proofs.cycle.Cycle.sweep.Goals as goal
 
 pub loop-self-init : goal.loop-self-init
-loop-self-init g c =
-    let whole : c.args.left - 0 ≡ c.args.left = omega arith in
-    record { advance = advance-turn _ _ _ _ (turn-none c.args.left c.args.self.now c.requires.steady); from = rw whole c.requires.from; told = leads-starts g.L.Log.has c.args.left c.args.self.now.collector c.args.log.now }
+loop-self-init g c = grind (arith, advance-turn, turn-none, leads-starts)
 
 pub loop-self-preserved : goal.loop-self-preserved
 loop-self-preserved g c =

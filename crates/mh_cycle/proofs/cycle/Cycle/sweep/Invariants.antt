@@ -1,7 +1,7 @@
 use Rattle.std.proofs.Common.{◌-◌, false}
 use Rattle.mh_model.specs.{declared.cycle.Phase.TheVariants.Sweep, Deeds.deeds_of_steps}
-use Rattle.mh_deeds.specs.Logs.{Leads}
-use Rattle.mh_cycle.specs.Advance.{IsFrom, IsAdvance}
+use Rattle.mh_deeds.specs.Auxiliary.{Leads}
+use Rattle.mh_cycle.specs.Auxiliary.{IsFrom, IsAdvance}
 use Rattle.mh_cycle.proofs.cycle.Cycle.sweep.Given as goal
 
 abbrev pub invariant-loop-self : goal.invariant-loop-self

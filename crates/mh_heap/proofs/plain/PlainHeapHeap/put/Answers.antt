@@ -5,9 +5,7 @@ use Rattle.mh_heap.proofs.plain.PlainHeapHeap.put.Goals as goal
 
 pub returns-in_err-field : goal.returns-in_err-field
 unfolding heap_step
-returns-in_err-field c =
-    let shown = shown_at _ _ _ c.in_ok-birth.ensures.there c.index-object.ensures in
-    grind (arith, common_steps)
+returns-in_err-field c = grind (arith, shown_at, common_steps)
 
 pub invariant_of-self : goal.invariant_of-self
 invariant_of-self c =

@@ -1,7 +1,7 @@
 use Rattle.std.proofs.Common.{◌≡◌, ◌++◌, Option, length}
 use Rattle.mh_model.specs.{Bytes.Text, Live.Live}
 use Rattle.mh_text.specs.Devices.{Works}
-use Rattle.mh_live.specs.Feeding.{IsFed}
+use Rattle.mh_live.specs.Auxiliary.{IsFed}
 use Rattle.mh_live.proofs.feed.Feed.bytes.Given as goal
 
 -- the lines in what was taken of the bytes were answered, and the refused ones told

@@ -1,5 +1,5 @@
-use Rattle.std.proofs.Common.{arith, ◌≡◌, ◌-◌, ◌+◌, ℕ, suc, [], ◌∷◌, ◌++◌, None, ap, sym, ◌∙◌, refl}
-use Rattle.mh_lock.specs.{Seats.{LockView, LockSeatView, new_seat}, Steps.{seat_view, empty_logs}}
+use Rattle.std.proofs.Common.{arith, ◌≡◌, ◌-◌, ◌+◌, ℕ, suc, [], ◌∷◌, ◌++◌, ap, sym, ◌∙◌, refl}
+use Rattle.mh_lock.specs.Seats.{LockView, LockSeatView, new_seat}
 use Rattle.mh_lock.proofs.{LockSteps.{opening-locked, split-kept}, LockSeats.{rest-of_split, each-push}}
 use Rattle.mh_lock.proofs.lock.Lock.open.Goals as goal
 
@@ -9,15 +9,7 @@ new-requires g c =
     rw items (opening-locked g.E.Owned.owner g.T.Entries.entries g.T.Entries.origin (c.args.seats, c.origin.result) c.args.value c.requires.fresh (sym c.origin.ensures))
 
 pub loop-number-init : goal.loop-number-init
-loop-number-init g c =
-    let made = c.in-Ok.ensures.ok in
-    let count : ℕ = c.args.seats - 1 in
-    let is : c.args.seats ≡ suc count = omega arith in record {
-      left = (count, omega arith, made.4 ∙ ap (λ (n : ℕ). (seat_view (empty_logs 0 n) None, [])) is);
-      table = made.2;
-      count = c.new-all.ensures.len;
-      each = λ number other below. absurd (omega arith);
-    }
+loop-number-init g c = grind arith
 
 pub split_seat-first-requires : goal.split_seat-first-requires
 split_seat-first-requires g c = (

@@ -1,7 +1,7 @@
 use Rattle.mh_model.specs.{History.IsLegal, HistoryTexts.IsLegalRecord}
 use Rattle.mh_run_laws.proofs.runs.RunsByEvents.{replies_more}
-use Rattle.mh_machine.specs.Judging.{HasItsReply, IsMeasured}
-use Rattle.mh_machine.specs.Rules.{event_of, legal_rule, measured_event, record_rule}
+use Rattle.mh_machine.specs.{Judging.{HasItsReply, IsMeasured}, Rules.{legal_rule, record_rule}}
+use Rattle.mh_machine.specs.Auxiliary.{event_of, measured_event}
 use Rattle.mh_machine.proofs.JudgeLemmas.{none_judged}
 use Rattle.mh_machine.proofs.judge.Judge.open.Goals as goal
 

@@ -1,6 +1,6 @@
 use Rattle.std.proofs.Common.{◌≤◌, ◌+◌, arith}
 use Rattle.mh_model.specs.Limits.{most_events}
-use Rattle.mh_machine.specs.{Engines.machine_of, Running.Running}
+use Rattle.mh_machine.specs.{Auxiliary.machine_of, Running.Running}
 use Rattle.mh_machine.proofs.RunningLemmas.{config-running, event-running, short-half, short-running}
 use Rattle.mh_machine.proofs.machine.Machine.advance.Goals as goal
 

@@ -1,4 +1,4 @@
-use Rattle.mh_machine.specs.{Engines.machine_of, Running.Running}
+use Rattle.mh_machine.specs.{Auxiliary.machine_of, Running.Running}
 use Rattle.mh_machine.proofs.RunningLemmas.{config-running}
 use Rattle.mh_machine.proofs.machine.Machine.config.Goals as goal
 

@@ -1,6 +1,6 @@
 use Rattle.std.proofs.Common.{refl, ap}
 use Rattle.mh_model.specs.Trace.{TraceState}
-use Rattle.mh_machine.specs.{Engines.machine_of, Running.Running}
+use Rattle.mh_machine.specs.{Auxiliary.machine_of, Running.Running}
 use Rattle.mh_machine.proofs.RunningLemmas.{forgotten-running}
 use Rattle.mh_machine.proofs.machine.Machine.forget.Goals as goal
 

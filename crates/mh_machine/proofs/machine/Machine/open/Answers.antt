@@ -1,4 +1,4 @@
-use Rattle.mh_machine.specs.Engines.{machine_of}
+use Rattle.mh_machine.specs.Auxiliary.{machine_of}
 use Rattle.mh_machine.proofs.RunningLemmas.{first-running}
 use Rattle.mh_machine.proofs.machine.Machine.open.Goals as goal
 

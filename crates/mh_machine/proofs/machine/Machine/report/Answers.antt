@@ -1,6 +1,6 @@
 use Rattle.std.proofs.Common.{◌∙◌, ap}
 use Rattle.mh_model.specs.{declared.config.Config.Config, Machine.report_on}
-use Rattle.mh_machine.specs.{Engines.machine_of, Running.Running}
+use Rattle.mh_machine.specs.{Auxiliary.machine_of, Running.Running}
 use Rattle.mh_machine.proofs.RunningLemmas.{config-running, report-promises}
 use Rattle.mh_machine.proofs.machine.Machine.report.Goals as goal
 

@@ -1,7 +1,7 @@
 use Rattle.std.proofs.Common.{ap, rules}
 use Rattle.mh_model.specs.{Mutator.{heap_effect, mutator_step}, declared.command.Command.Command}
 use Rattle.mh_model.specs.declared.reply.Reply.{Reply}
-use Rattle.mh_paged.specs.Kept.{heap_of}
+use Rattle.mh_paged.specs.Auxiliary.{heap_of}
 use Rattle.mh_paged.proofs.KeptLemmas.{keeps-each, kept-after}
 use Rattle.mh_paged.proofs.kept.KeptHeap.copy.Goals as goal
 

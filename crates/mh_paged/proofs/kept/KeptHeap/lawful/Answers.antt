@@ -1,6 +1,6 @@
 use Rattle.mh_model.specs.{Mutator.HeapState, View.heap_view}
 use Rattle.mh_laws.proofs.{snapshots.CycleStarts.births-view, runs.EveryMoment.config-mutator_step}
-use Rattle.mh_paged.specs.Kept.{heap_of}
+use Rattle.mh_paged.specs.Auxiliary.{heap_of}
 use Rattle.mh_paged.proofs.kept.KeptHeap.lawful.Goals as goal
 
 pub returns : goal.returns

@@ -1,5 +1,5 @@
 use Rattle.std.proofs.Common.{ap, ◌∙◌}
-use Rattle.mh_paged.specs.Kept.{heap_of}
+use Rattle.mh_paged.specs.Auxiliary.{heap_of}
 use Rattle.mh_paged.proofs.{KeptLemmas.{keeps-each, kept-after, steady-made}, StepLemmas.{born-steps, made-group}}
 use Rattle.mh_model.specs.declared.{command.Command.Command, reply.Reply.Reply}
 use Rattle.mh_paged.proofs.kept.KeptHeap.make.Goals as goal

@@ -1,7 +1,7 @@
 use Rattle.std.proofs.Common.{ap, rules, arith}
 use Rattle.mh_model.specs.{Mutator.{HeapState, heap_effect, mutator_step}, declared.command.Command.Command}
 use Rattle.mh_model.specs.declared.reply.Reply.{Reply}
-use Rattle.mh_paged.specs.Kept.{heap_of}
+use Rattle.mh_paged.specs.Auxiliary.{heap_of}
 use Rattle.mh_table_laws.proofs.marking.BatchMarking.{leads_of}
 use Rattle.mh_paged.proofs.{FieldLemmas.field-original, KeptLemmas.{found-field, keeps-each, kept-after}}
 use Rattle.mh_paged.proofs.kept.KeptHeap.put.Goals as goal

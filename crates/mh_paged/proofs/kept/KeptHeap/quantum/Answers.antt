@@ -1,6 +1,6 @@
 use Rattle.std.proofs.Common.{refl}
 use Rattle.mh_model.specs.Mutator.{HeapState}
-use Rattle.mh_paged.specs.Kept.{heap_of}
+use Rattle.mh_paged.specs.Auxiliary.{heap_of}
 use Rattle.mh_paged.proofs.KeptLemmas.{kept-quantum}
 use Rattle.mh_paged.proofs.kept.KeptHeap.quantum.Goals as goal
 

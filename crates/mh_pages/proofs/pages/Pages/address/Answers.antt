@@ -1,4 +1,4 @@
-use Rattle.std.proofs.Common.{sym}
+use Rattle.std.proofs.Common.{arith}
 use Rattle.mh_pages.proofs.KeptLemmas.{block_of, size_used, address_shown}
 use Rattle.mh_pages.proofs.pages.Pages.address.Goals as goal
 
@@ -9,5 +9,4 @@ pub start_of-requires-clause-class : goal.start_of-requires-clause-class
 start_of-requires-clause-class c = (size_used _ _ _ _ _ c.self.invariant _ (block_of _ _ _ _ _ c.self.invariant _ _ c.self.view_is c.requires).used).most
 
 pub returns : goal.returns
-returns c =
-    rw (c.start_of.ensures, ← c.self.view_is) (sym (address_shown _ _ _ _ _ c.self.invariant _ (block_of _ _ _ _ _ c.self.invariant _ _ c.self.view_is c.requires)))
+returns c = grind (arith, address_shown, block_of)

@@ -1,4 +1,4 @@
-use Rattle.std.proofs.Common.{◌∙◌, sym}
+use Rattle.std.proofs.Common.{arith, ◌∙◌, sym}
 use Rattle.mh_pages.proofs.KeptLemmas.{inside_of, class_shown, class_none}
 use Rattle.mh_pages.proofs.pages.Pages.class_at.Goals as goal
 
@@ -6,9 +6,7 @@ pub read-head-requires-clause-within : goal.read-head-requires-clause-within
 read-head-requires-clause-within c = inside_of _ _ _ _ _ c.self.invariant _ _ c.self.view_is c.requires
 
 pub returns-then-head-eq0 : goal.returns-then-head-eq0
-returns-then-head-eq0 c =
-    rw (← c.self.view_is)
-    (sym (class_none _ _ _ _ _ c.self.invariant _ (inside_of _ _ _ _ _ c.self.invariant _ _ c.self.view_is c.requires) (sym c.read-head.ensures.value ∙ c.if-head-eq0.true)))
+returns-then-head-eq0 c = grind (arith, class_none, inside_of)
 
 pub returns : goal.returns
 returns c =

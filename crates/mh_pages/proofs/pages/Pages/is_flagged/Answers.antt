@@ -1,4 +1,4 @@
-use Rattle.std.proofs.Common.{sym}
+use Rattle.std.proofs.Common.{arith}
 use Rattle.mh_pages.proofs.KeptLemmas.{inside_of, flag_shown}
 use Rattle.mh_pages.proofs.pages.Pages.is_flagged.Goals as goal
 
@@ -6,5 +6,4 @@ pub read-requires-clause-within : goal.read-requires-clause-within
 read-requires-clause-within c = inside_of _ _ _ _ _ c.self.invariant _ _ c.self.view_is c.requires
 
 pub returns : goal.returns
-returns c =
-    rw (← c.self.view_is, c.read.ensures.value) (sym (flag_shown _ _ _ _ _ c.self.invariant _ (inside_of _ _ _ _ _ c.self.invariant _ _ c.self.view_is c.requires)))
+returns c = grind (arith, flag_shown, inside_of)

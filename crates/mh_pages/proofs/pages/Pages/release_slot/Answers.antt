@@ -20,6 +20,4 @@ invariant_of-self c =
     (kept-released _ _ _ _ _ c.self.invariant _ (block_of _ _ _ _ _ c.self.invariant _ _ c.self.view_is c.requires))
 
 pub returns : goal.returns
-returns c =
-    rw (c.change_free.ensures.frees, c.read-before.ensures.value, c.slot.ensures, c.page-page.ensures, ← c.self.view_is)
-    (released_shown _ _ _ _ _ c.self.invariant _ (block_of _ _ _ _ _ c.self.invariant _ _ c.self.view_is c.requires))
+returns c = grind (arith, released_shown, block_of)

@@ -1,12 +1,9 @@
-use Rattle.std.proofs.Common.{length, ap, sym, subst, arith}
-use Rattle.mh_pages.specs.Words.{words_at}
+use Rattle.std.proofs.Common.{ap, sym, subst, arith}
 use Rattle.mh_pages.proofs.{KeptLemmas.header_words, HeaderLemmas.{HasHeader, header_after}}
 use Rattle.mh_pages.proofs.pages.Pages.set_header.Goals as goal
 
 pub set_word_from-requires-clause-within : goal.set_word_from-requires-clause-within
-set_word_from-requires-clause-within c =
-    let four = header_words _ _ _ _ _ c.self.invariant _ _ c.self.view_is c.requires in
-    omega (arith, ap (λ a. length (words_at c.args.self.now a.place)) c.address-address.ensures, four)
+set_word_from-requires-clause-within c = grind (arith, header_words)
 
 pub set_word_from-requires-2-clause-within : goal.set_word_from-requires-2-clause-within
 set_word_from-requires-2-clause-within c =

@@ -1,5 +1,4 @@
-use Rattle.std.proofs.Common.{◌+◌, ◌∙◌, ap, sym, arith, get_or}
-use Rattle.mh_pages.specs.Words.{words_at}
+use Rattle.std.proofs.Common.{ap, arith}
 use Rattle.mh_pages.proofs.{ShownLemmas.word-shown, KeptLemmas.{word_of, word_within, word_at}}
 use Rattle.mh_pages.proofs.pages.Pages.word_from.Goals as goal
 
@@ -16,6 +15,4 @@ read-requires-clause-within c =
 pub returns : goal.returns
 returns c =
     let is = word_of _ _ _ _ _ c.self.invariant _ _ _ c.self.view_is c.requires.within in
-    let at = ap (λ a. a.word) c.address.view_is ∙ word_at _ _ _ _ _ c.self.invariant _ _ c.self.view_is c.requires.at is.place_taken in
-    c.read.ensures.value ∙ (ap (λ k. get_or c.self.inside.words (k + c.args.index) 0) at
-    ∙ (sym (word-shown _ _ c.self.inside.words _ _ is) ∙ ap (λ table. get_or (words_at table c.args.address.place) c.args.index 0) c.self.view_is))
+    grind (arith, word_at, word-shown)

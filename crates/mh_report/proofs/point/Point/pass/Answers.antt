@@ -1,6 +1,6 @@
 use Rattle.std.proofs.Common.{◌≡◌, ◌∙◌, ◌+◌, ◌-◌, ◌++◌, suc, replicate, ap, arith, slice_index_or}
 use Rattle.mh_report.specs.{declared.segment.Segment.Segment, declared.segment.Unit.TheVariants.Mutator}
-use Rattle.mh_report.specs.Segments.{letter_of, letters_after}
+use Rattle.mh_report.specs.Segments.{letter_of}
 use Rattle.mh_report.proofs.PointLemmas.{inside_list, inside_segment, is_inside, after_passed, after_last, after_end, inside_next}
 use Rattle.mh_report.proofs.point.Point.pass.Goals as goal
 
@@ -41,10 +41,7 @@ returns-else-self-segments-clause-passed c =
     let left = segment.count - point.passed in
     let within = inside_segment segments point.segment point.passed none c.requires.point in
     let all : point.passed + left ≡ segment.count = omega (arith, within) in
-    after_passed segments point.segment point.passed left none (inside_list _ _ _ c.requires.point) (omega (arith, within))
-    ∙ ap (λ passed. replicate left (letter_of segment.unit) ++ letters_after segments point.segment passed) all
+    grind (arith, after_passed, inside_list)
 
 pub returns-else-self-segments-clause-goes : goal.returns-else-self-segments-clause-goes
-returns-else-self-segments-clause-goes c some =
-    let last = after_last c.args.segments.now c.args.self.now.segment c.args.self.now.passed none c.requires.point (omega arith) in
-    omega (arith, last, c.requires.most)
+returns-else-self-segments-clause-goes c some = grind (arith, after_last)

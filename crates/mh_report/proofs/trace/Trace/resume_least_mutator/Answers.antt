@@ -1,22 +1,15 @@
-use Rattle.std.proofs.Common.{ap, sym, arith, length}
-use Rattle.mh_report.specs.{Kept.KeptTrace, Segments.letters_of}
+use Rattle.std.proofs.Common.{arith}
 use Rattle.mh_report.proofs.{SegmentLemmas.counts_whole, WalkLemmas.least_none}
 use Rattle.mh_report.proofs.trace.Trace.resume_least_mutator.Goals as goal
 
 pub returns-then-window-letters-clause-value : goal.returns-then-window-letters-clause-value
-returns-then-window-letters-clause-value c =
-    let shown = ap (λ (kept : KeptTrace). length kept.trace.letters) c.self.view_is in
-    sym (least_none c.args.window c.args.self.now.trace.letters (omega (arith, shown, counts_whole (letters_of c.self.inside.segments.items), c.self.invariant.0, c.self.invariant.1)))
+returns-then-window-letters-clause-value c = grind (arith, least_none, counts_whole)
 
 pub first-begun-requires-clause-long : goal.first-begun-requires-clause-long
-first-begun-requires-clause-long c =
-    let same = ap (λ segments. length (letters_of segments)) c.as_slice-segments.ensures.value in
-    omega (arith, same, counts_whole (letters_of c.self.inside.segments.items), c.self.invariant.0, c.self.invariant.1)
+first-begun-requires-clause-long c = grind (arith, counts_whole)
 
 pub to_end-walk-requires-clause-letters : goal.to_end-walk-requires-clause-letters
-to_end-walk-requires-clause-letters c =
-    let same = ap (λ segments. length (letters_of segments)) c.as_slice-segments.ensures.value in
-    omega (arith, same, counts_whole (letters_of c.self.inside.segments.items), c.self.invariant.0, c.self.invariant.1)
+to_end-walk-requires-clause-letters c = grind (arith, counts_whole)
 
 pub invariant_of-self : goal.invariant_of-self
 invariant_of-self c =

@@ -1,6 +1,6 @@
 use Rattle.std.proofs.Common.{◌≡◌, ◌+◌, ◌-◌, ◌≤◌, length, take, drop}
 use Rattle.mh_model.specs.Trace.{mutator_count}
-use Rattle.mh_report.specs.{Segments.letters_of, Points.{IsPoint, after}}
+use Rattle.mh_report.specs.{Segments.letters_of, Auxiliary.IsPoint, Points.after}
 use Rattle.mh_report.proofs.walk.Walk.first.Given as goal
 
 abbrev pub invariant-loop-left : goal.invariant-loop-left

@@ -1,6 +1,6 @@
 use Rattle.std.proofs.Common.{◌≡◌, ◌+◌, ◌-◌, ◌≤◌, ◌++◌, List, length, replicate}
 use Rattle.mh_model.specs.Trace.{Letter}
-use Rattle.mh_report.specs.{Segments.letter_of, Walk.HasSlid, Points.{IsPoint, after}}
+use Rattle.mh_report.specs.{Segments.letter_of, Auxiliary.{HasSlid, IsPoint}, Points.after}
 use Rattle.mh_report.proofs.walk.Walk.over.Given as goal
 
 abbrev pub invariant-loop-left : goal.invariant-loop-left

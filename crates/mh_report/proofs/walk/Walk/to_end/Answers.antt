@@ -4,11 +4,7 @@ use Rattle.mh_report.proofs.WalkLemmas.{length-alike, kept_answer, no_letters}
 use Rattle.mh_report.proofs.walk.Walk.to_end.Goals as goal
 
 pub loop-walk-smaller : goal.loop-walk-smaller
-loop-walk-smaller c =
-    let end_is = ap (λ (walk : Walk). walk.end) c.over-walk.ensures.same in
-    let point_is = ap (λ (walk : Walk). walk.entering.segment) c.over-walk.ensures.same in
-    let goes = c.pass-entering.ensures.goes (omega (arith, c.loop-walk-test.true)) in
-    omega (arith, end_is, point_is, goes, c.pass-entering.ensures.within)
+loop-walk-smaller c = grind arith
 
 pub loop-walk-preserved : goal.loop-walk-preserved
 loop-walk-preserved c =

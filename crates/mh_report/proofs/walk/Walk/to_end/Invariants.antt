@@ -1,5 +1,5 @@
 use Rattle.std.proofs.Common.{◌≡◌, ◌+◌, ◌-◌, length}
-use Rattle.mh_report.specs.Walks.{IsWalk}
+use Rattle.mh_report.specs.Auxiliary.{IsWalk}
 use Rattle.mh_report.proofs.walk.Walk.to_end.Given as goal
 
 abbrev pub invariant-loop-walk : goal.invariant-loop-walk

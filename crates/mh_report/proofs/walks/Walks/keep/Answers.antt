@@ -1,14 +1,12 @@
-use Rattle.std.proofs.Common.{◌∙◌, ap, subst, sym, arith, is_ok}
+use Rattle.std.proofs.Common.{subst, sym, arith, is_ok}
 use Rattle.std.specs.List.{All}
-use Rattle.mh_report.specs.{declared.walk.Walk.Walk, Walks.{IsWalk, AreInOrder, HasWalk}}
+use Rattle.mh_report.specs.Auxiliary.{IsWalk, HasWalk}
 use Rattle.mh_report.proofs.OrderLemmas.{at-position, all-inserted, order-inserted, has-inserted}
 use Rattle.mh_report.proofs.walks.Walks.keep.Goals.{else-number-count-via-then-number-count+else-index-walk, else-number-count-via-else-number-count}
 use Rattle.mh_report.proofs.walks.Walks.keep.Goals as goal
 
 pub returns-then-count-lt-WINDOWS-clause-order : goal.returns-then-count-lt-WINDOWS-clause-order
-returns-then-count-lt-WINDOWS-clause-order c =
-    let p = c.position-number.ensures in
-    subst AreInOrder (sym c.insert.ensures.items) (order-inserted c.args.self.now.walks.items c.position-number.result c.args.walk (is_ok c.insert.result) c.requires (record { within = p.within; shorter = p.shorter; rest = p.rest }))
+returns-then-count-lt-WINDOWS-clause-order c = grind (arith, order-inserted, is_ok)
 
 pub returns-then-count-lt-WINDOWS-clause-kept : goal.returns-then-count-lt-WINDOWS-clause-kept
 returns-then-count-lt-WINDOWS-clause-kept c window has =
@@ -18,11 +16,7 @@ pub returns-then-count-lt-WINDOWS-clause-put : goal.returns-then-count-lt-WINDOW
 returns-then-count-lt-WINDOWS-clause-put c has =
     let p = c.position-number.ensures in
     let at = at-position c.args.self.now.walks.items c.args.walk.window c.position-number.result c.requires (record { within = p.within; shorter = p.shorter; rest = p.rest }) has in
-    let never : ⊥ = elim c.else-number-count.branch [
-      | else-number-count-via-then-number-count+else-index-walk w ↦ w.if-index-walk.false (ap (λ (x : Walk). x.window) w.index.ensures ∙ at.1 w.index.result.now)
-      | else-number-count-via-else-number-count w ↦ omega (arith, at.0, w.if-number-count.false, c.len-count.ensures)
-    ] in
-    absurd never
+    grind (arith, else-number-count-via-then-number-count+else-index-walk, else-number-count-via-else-number-count)
 
 pub returns-then-count-lt-WINDOWS-clause-walks : goal.returns-then-count-lt-WINDOWS-clause-walks
 returns-then-count-lt-WINDOWS-clause-walks c segments all one =
@@ -32,8 +26,4 @@ pub returns-else-count-lt-WINDOWS-clause-put : goal.returns-else-count-lt-WINDOW
 returns-else-count-lt-WINDOWS-clause-put c has =
     let p = c.position-number.ensures in
     let at = at-position c.args.self.now.walks.items c.args.walk.window c.position-number.result c.requires (record { within = p.within; shorter = p.shorter; rest = p.rest }) has in
-    let never : ⊥ = elim c.else-number-count.branch [
-      | else-number-count-via-then-number-count+else-index-walk w ↦ w.if-index-walk.false (ap (λ (x : Walk). x.window) w.index.ensures ∙ at.1 w.index.result.now)
-      | else-number-count-via-else-number-count w ↦ omega (arith, at.0, w.if-number-count.false, c.len-count.ensures)
-    ] in
-    absurd never
+    grind (arith, else-number-count-via-then-number-count+else-index-walk, else-number-count-via-else-number-count)

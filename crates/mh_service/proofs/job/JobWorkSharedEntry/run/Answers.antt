@@ -1,5 +1,5 @@
 use Rattle.std.proofs.Common.{MatchResult, refl, subst}
-use Rattle.mh_service.specs.Sharing.{IsReplayed, IsDone, IsRefused}
+use Rattle.mh_service.specs.{Auxiliary.IsReplayed, Sharing.{IsDone, IsRefused}}
 use Rattle.mh_service.proofs.SharedStates.{answered, answered-replayed, replayed-of}
 use Rattle.mh_state.specs.Storing.{Stored}
 use Rattle.mh_service.proofs.job.JobWorkSharedEntry.run.Goals as goal

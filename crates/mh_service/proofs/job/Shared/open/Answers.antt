@@ -1,5 +1,5 @@
 use Rattle.std.proofs.Common.{sym, subst}
-use Rattle.mh_service.specs.Sharing.{IsReplayed}
+use Rattle.mh_service.specs.Auxiliary.{IsReplayed}
 use Rattle.mh_service.proofs.SharedStates.{first-replayed}
 use Rattle.mh_service.proofs.job.Shared.open.Goals as goal
 

@@ -1,6 +1,6 @@
 use Rattle.std.proofs.{Common.{◌≡◌, ◌∙◌, ◌++◌, List, length, take, ap, sym, subst, arith}, Math.Seq.take-length}
 use Rattle.mh_model.specs.Classes.{Part}
-use Rattle.mh_size_runs.specs.ClassCounts.{HasCounted}
+use Rattle.mh_size_runs.specs.Auxiliary.{HasCounted}
 use Rattle.mh_size_runs.proofs.ClassLemmas.{taken-next}
 use Rattle.mh_size_runs.proofs.class_counts.ClassCounts.ask.Goals as goal
 

@@ -1,6 +1,6 @@
 use Rattle.std.proofs.Common.{◌≡◌, ◌+◌, ◌++◌, List, take}
 use Rattle.mh_model.specs.Classes.{Part}
-use Rattle.mh_size_runs.specs.ClassCounts.{HasCounted}
+use Rattle.mh_size_runs.specs.Auxiliary.{HasCounted}
 use Rattle.mh_size_runs.proofs.class_counts.ClassCounts.ask.Given as goal
 
 abbrev pub invariant-loop-index : goal.invariant-loop-index

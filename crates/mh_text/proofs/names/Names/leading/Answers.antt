@@ -1,6 +1,6 @@
 use Rattle.std.proofs.Common.{Option, List, ℕ, sym, subst}
 use Rattle.std.specs.{Prelude.IfSome, Borrow.Bor}
-use Rattle.mh_text.specs.Names.{IsKnown}
+use Rattle.mh_text.specs.Auxiliary.{IsKnown}
 use Rattle.mh_text.proofs.PlainLemmas.{name_there}
 use Rattle.mh_text.proofs.names.Names.leading.Goals as goal
 

@@ -1,6 +1,6 @@
 use Rattle.std.proofs.{Common.{List, ◌∷◌, ◌++◌, []}, lemmas.Result.on_ok_weaker}
 use Rattle.mh_model.specs.declared.history.Measured.{Measured}
-use Rattle.mh_window_curve.specs.Histories.{IsTallyOf, IsTraceIf}
+use Rattle.mh_window_curve.specs.Auxiliary.{IsTallyOf, IsTraceIf}
 use Rattle.mh_window_curve.proofs.TallyLemmas.{tally_more}
 use Rattle.mh_window_curve.proofs.tally.Tally.add.Goals as goal
 

@@ -1,5 +1,5 @@
 use Rattle.std.proofs.{Common.{List, ◌∷◌, ◌++◌, []}, lemmas.Result.on_ok_weaker}
-use Rattle.mh_window_pauses.specs.{declared.line.PauseLine.PauseLine, Logs.{IsTraceIf, IsTraceOf}}
+use Rattle.mh_window_pauses.specs.{declared.line.PauseLine.PauseLine, Auxiliary.{IsTraceIf, IsTraceOf}}
 use Rattle.mh_window_pauses.proofs.LogLemmas.{blank_added, none_added, not_short, run_added, too_many_added}
 use Rattle.mh_window_pauses.proofs.log.Traced.add.Goals as goal
 

@@ -24,5 +24,4 @@ returns-in-Mutator-2-clause-slides c =
     let new : CountState = record { bound = inside.bound; here = 0; tally = tally; left = inside.left - n } in
     let some : 0 < n = omega (arith, c.if-count-eq0.false) in
     let counted = counts_mutator s n enters tally some c.with_pause-self-inside.ensures.pauses c.with_pause-self-inside.ensures.within in
-    let goes = subst (λ (leaves : Side). CountsOn s (alike n (letter_of leaves) enters) new) (sym c.in-Mutator.is) counted in
-    subst (λ (t : CountState). CountsOn t (alike n (letter_of c.args.leaves) enters) new) c.self.view_is goes
+    grind arith
