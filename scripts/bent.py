@@ -112,12 +112,16 @@ class Said:
         return [it for it in self.verdicts if it == function or any(it == name or it.startswith((name + "::", name + "+")) for name in inner)]
 
     def known(self, function):
-        """The name of a function whose block belongs to a trait, which the source alone doesn't tell."""
+        """The name that checks give a function: that of a trait's block says more, and that of a type has the type's module."""
         if not function or self.names_of(function):
             return function
         head, _, last = function.rpartition("::")
-        like = [it for it in self.verdicts if it.startswith(head) and it.endswith("::" + last)]
-        return like[0] if len(like) == 1 else function
+        owner = head.rpartition("::")[2]
+        for like in (lambda it: it.startswith(head), lambda it: f"::{owner}::" in it):
+            found = [it for it in self.verdicts if it.endswith("::" + last) and like(it)]
+            if len(found) == 1:
+                return found[0]
+        return function
 
     def waited_for(self, functions):
         """All functions that some functions wait for, through what stands between."""
