@@ -8,6 +8,9 @@ DEFINITION = re.compile(r" *(?:(?:abbrev|unfoldable) pub|pub record|pub data) (\
 ROW = re.compile(r"pub (\w+) :")
 WORD = re.compile(r"[^\W\d][\w'-]*")
 USED = re.compile(r"(?m)^\s*(?:pub )?(?:ghost )?use Rattle\.([\w.]+)\.\{(.*)\};?$")
+# A module that a file gives a name of its own, and a word behind such a name.
+MODULE_NAMED = re.compile(r"(?m)^\s*(?:ghost )?use Rattle\.([\w.]+) as (\w+);?$")
+BEHIND = re.compile(r"\b(\w+)\.([^\W\d][\w'-]*)")
 OWNER = re.compile(r"(?m)^(?:pub (trait)|impl)\b")
 GHOST = re.compile(r"(?m)^[ \t]*((?:pub )?ghost \w+: \{.*)$")
 TYPE = re.compile(r"(?m)^pub (?:struct|enum|trait) (\w+)")
@@ -20,8 +23,9 @@ CLASS_WORDS = re.compile(r"\b(?:class_sizes|class_of|is_class_size|class_number)
 COMMENT = re.compile(r" *-- (.*?)(?<! ----)")
 DIVIDER = re.compile(r" *-- .* -{4,}")
 MODULE = re.compile(r"(?m)^pub mod (\w+)")
-# What a type says of itself for the clauses of a trait. How its value is read, and what it keeps, are its own.
-GIVEN = re.compile(r"(?m)^[ \t]*(?:pub )?ghost (?!view\b|invariant\b)\w+ = \{")
+# What a type says of itself for the clauses of a trait. How its value is read, and what it keeps, are its own. So is the value
+# of a type that no other crate can name.
+GIVEN = re.compile(r"(?m)^[ \t]*(?:pub )?ghost (?!view\b|invariant\b)(\w+) = \{")
 
 
 def read(path):
@@ -217,9 +221,12 @@ class Source:
             above = [*above, said[1]] if said else []
 
 
-def words_meant(text, meant):
-    """The definitions that words of a text stand for."""
-    return {meant[it] for it in WORD.findall(text) if it in meant}
+def words_meant(text, file, own=()):
+    """The definitions that words of a text stand for in a file, whose own are given. Some stand behind the name of a module."""
+    meant = imports(file) | dict(own)
+    named = {name: module for module, name in MODULE_NAMED.findall(file)}
+    behind = {f"{named[name]}.{it}" for name, it in BEHIND.findall(text) if name in named}
+    return {meant[it] for it in WORD.findall(text) if it in meant} | behind
 
 
 def definitions(crate):
@@ -227,18 +234,19 @@ def definitions(crate):
     for path in sorted(crate.glob("specs/*.antt")):
         text, here = read(path), f"{crate.name}.specs.{path.stem}"
         items = [it for it in Source(path, DEFINITION).items if it]
-        meant = imports(text) | {it.name: f"{here}.{it.name}" for it in items}
+        own = {it.name: f"{here}.{it.name}" for it in items}
         for item in items:
-            yield f"{here}.{item.name}", path, words_meant(item.text, meant)
+            yield f"{here}.{item.name}", path, words_meant(item.text, text, own)
 
 
 def cited(crate):
     """The definitions that the public contracts of a crate name, and what its types give to those of traits."""
     found = set()
     for _, text, public in public_calls(crate):
-        found |= words_meant("\n".join(said for _, said in public), imports(text))
-    for path in sorted(crate.glob("src/**/*.rt")):
-        text = read(path)
-        given = (text[it.end():closing(text, it.end() - 1)] for it in GIVEN.finditer(text))
-        found |= words_meant("\n".join(given), imports(text))
+        found |= words_meant("\n".join(said for _, said in public), text)
+    top = crate / "src"
+    for path in sorted(top.rglob("*.rt")):
+        text, can_be_named = read(path), is_public(path, top)
+        given = (text[it.end():closing(text, it.end() - 1)] for it in GIVEN.finditer(text) if can_be_named or it[1] != "Value")
+        found |= words_meant("\n".join(given), text)
     return found
