@@ -406,13 +406,15 @@ int32_t metroheap_step(metroheap *heap, const metroheap_event *event,
 /*
 ** Does an event, as metroheap_step does, and judges the reply that another
 ** collector gave to it: an entry of a history, one after another. That is right
-** if it is what the machine answers, number by number; of a dump the items are
-** not compared. `given` and `right` are two structs.
+** if it is what the machine answers, in its kind and in all nine numbers: those
+** that a kind of reply doesn't have are 0. Of a dump the items are not compared.
+** `given` and `right` are two structs.
 **
 ** A world takes also a full heap as right, where it makes the new object that
 ** was asked for. Then it doesn't make it, and all is as if the command had
 ** never been asked: the last reply stays, and nothing is counted. So it is with
-** a control, to which a world has nothing to say.
+** a control, to which a world has nothing to say: any struct is right as its
+** reply, also one that is the reply of nothing.
 **
 ** METROHEAP_DONE       `*given` is right; `*right` is the same
 ** METROHEAP_DIFFERS    it isn't, and `*right` is what is. The event was done as
@@ -565,9 +567,10 @@ int32_t metroheap_see_report(metroheap *heap, uint64_t window,
 **
 ** Makes room for the next `events` events. Then memory is refused for none of
 ** them, unless it is a dump; and so for none of as many after each time that
-** the trace is forgotten. This is proved. Texts of replies, and deeds that are
-** kept, ask for memory of their own: without it the event is done all the same,
-** and there is no text, or there are no deeds.
+** the trace is forgotten. This is proved, whatever metroheap_tell asks for in
+** between; that none is even asked for is tested. Texts of replies, and deeds
+** that are kept, ask for memory of their own: without it the event is done all
+** the same, and there is no text, or there are no deeds.
 **
 ** METROHEAP_DONE
 ** METROHEAP_NO_MEMORY, METROHEAP_CLOSED,

@@ -1,8 +1,9 @@
 /* Each call with each of its statuses but METROHEAP_FULL, for which no time is
 ** long enough, and each request for memory refused in turn: a call that is
 ** refused leaves the machine as it was, and answers the same when it is tried
-** again. Link it with -Wl,--wrap=malloc,--wrap=realloc. Prints nothing but its
-** last line; at a fault it names the line, and exits 1.
+** again. What a handle holds is freed when it is closed or opened again. Link it
+** with -Wl,--wrap=malloc,--wrap=realloc,--wrap=free. Prints nothing but its last
+** line; at a fault it names the line, and exits 1.
 */
 #include "metroheap.h"
 
@@ -14,8 +15,10 @@
 
 void *__real_malloc(size_t size);
 void *__real_realloc(void *block, size_t size);
+void __real_free(void *block);
 void *__wrap_malloc(size_t size);
 void *__wrap_realloc(void *block, size_t size);
+void __wrap_free(void *block);
 
 /* How many requests are granted before one is refused; none is refused if it is
 ** negative. After it all others are refused too, or none. */
@@ -24,6 +27,9 @@ static int refuses_rest;
 
 /* How many requests there were, and how many were refused. */
 static long requests, refusals;
+
+/* How many blocks are held: asked for, and not freed. */
+static long held;
 
 static int is_refused(size_t size) {
     requests++;
@@ -42,11 +48,20 @@ static int is_refused(size_t size) {
 }
 
 void *__wrap_malloc(size_t size) {
-    return is_refused(size) ? NULL : __real_malloc(size);
+    void *block = is_refused(size) ? NULL : __real_malloc(size);
+    held += block != NULL;
+    return block;
 }
 
 void *__wrap_realloc(void *block, size_t size) {
-    return is_refused(size) ? NULL : __real_realloc(block, size);
+    void *grown = is_refused(size) ? NULL : __real_realloc(block, size);
+    held += block == NULL && grown != NULL;
+    return grown;
+}
+
+void __wrap_free(void *block) {
+    held -= block != NULL;
+    __real_free(block);
 }
 
 /* What is tried ---------------------------------------------------------- */
@@ -643,6 +658,45 @@ static void long_histories(void) {
     CHECK(requests == 0 && is_right(same, reply_of(METROHEAP_REPLY_YES, 0)) && answers("a same 0 0", "yes"));
 }
 
+/* What is freed ---------------------------------------------------------- */
+
+/* Uses a handle that is open or not: it opens a machine or world over what it had, and does events of all kinds. */
+static void uses(int32_t (*open)(metroheap *)) {
+    CHECK(open(&heap) == METROHEAP_DONE && held > 0);
+    metroheap_tell(&heap, 1);
+    metroheap_reserve(&heap, 50);
+    for (uint32_t n = 0; n < 200; n++) {
+        int32_t status = step(&heap, any_event(n));
+        CHECK(status == METROHEAP_DONE || status == METROHEAP_IS_WORLD);
+    }
+    ask("name new 0 1 1");
+    ask("* dump");
+    ask("name nwe");
+    metroheap_forget(&heap);
+}
+
+static int32_t opens_world(metroheap *which) {
+    return metroheap_open_world(which, 2);
+}
+
+/* A handle that is closed holds nothing, whatever it had been opened over. */
+static void freeing(void) {
+    metroheap_close(&heap);
+    CHECK(held == 0);
+    for (int rounds = 0; rounds < 3; rounds++) {
+        uses(opens);
+        uses(opens_world);
+        uses(opens_world);
+        uses(opens);
+        metroheap_close(&heap);
+        CHECK(held == 0);
+        metroheap_close(&heap);
+        uses(opens_world);
+        metroheap_close(&heap);
+        CHECK(held == 0);
+    }
+}
+
 /* Refused memory --------------------------------------------------------- */
 
 /* Has the first request of a call refused, then the second, and so on, until the call asks for no more. A call that is
@@ -660,10 +714,6 @@ static long refused_in_turn(metroheap *which, int32_t (*call)(metroheap *), int3
         }
         CHECK(refusals > 0 && status == refusal && which->machine == machine && is_as_before(&before, which));
     }
-}
-
-static int32_t opens_world(metroheap *which) {
-    return metroheap_open_world(which, 2);
 }
 
 /* For so many events room is made. */
@@ -895,6 +945,7 @@ int main(void) {
     forgetting();
     reserving();
     long_histories();
+    freeing();
     for (int rest = 0; rest < 2; rest++) {
         refuses_rest = rest;
         refused_opening();
@@ -909,7 +960,7 @@ int main(void) {
         refused_deeds();
     }
     metroheap_close(&heap);
-    CHECK(heap.machine == NULL);
+    CHECK(heap.machine == NULL && held == 0);
     closed_handles();
     printf("each status but one, and each refused request\n");
     return 0;

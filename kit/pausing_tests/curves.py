@@ -108,6 +108,17 @@ class Curve:
             return None
         return f"a pause of {self.longest} at {self.ends[run]}, and {longest} was promised"
 
+    def untried(self, promises: Promises) -> list[str]:
+        """A sentence for each promise that no log of as many units breaks."""
+        short = f"not tried: a trace of {self.total} units has no"
+        sentences = ((floor(promises.every, promises.quantum, self.total) == 0, "window with a floor"),
+                     (self.total <= promises.longest, f"pause of more than {promises.longest}"),
+                     (self.total < promises.window, f"stretch of {promises.window} and more"))
+        return [f"{short} {what}" for is_so, what in sentences if is_so]
+
+    def keeps_share(self, percent: int, window: int) -> bool:
+        return window > self.total or self.percent_kept(window) >= percent
+
     def stretches(self, window: int) -> Iterator[tuple[int, int]]:
         """Stretches of a window or longer, among which is one with the least share."""
         if window <= self.total:

@@ -1,45 +1,12 @@
-//! Machines that go on with the memory that they have, and what is reported of them.
+//! Machines that go on with the memory that they have.
 use crate::scripts::every_kind;
-use mh_model::command::{Command, Control, Event};
+use mh_model::command::{Control, Event};
 use mh_model::config::Config;
-use mh_model::report::Report;
 use mh_scan::scan::OneScan;
 use mh_state::machine::Machine;
 use std::alloc::Global;
 use std::test::Fail;
 use test_support::famine::Famine;
-
-const CLEAR: Event = Event::Session(0, Command::Clear { slot: 0 });
-
-/// A report of so many units of the mutator and of no quantum, of which each window is full.
-fn of_mutator(mutator: u64, window: u64) -> Report {
-    Report {
-        mutator,
-        collector: 0,
-        quanta: 0,
-        greatest: 0,
-        window,
-        least: if window > mutator { None } else { Some(window) },
-        floor: None,
-    }
-}
-
-#[test]
-fn reports_count_from_the_last_forgetting(rt: HostRuntime) -> Result<(), Fail> {
-    let config = Config::new(4, 353, 0, 0).ok_or("no configuration")?;
-    let mut scanner = OneScan::new(rt.alloc());
-    let mut machine = Machine::open(rt.alloc(), config)?;
-    for _ in 0..3 {
-        machine.step(CLEAR, &mut scanner)?;
-    }
-    assert_eq!(rt; machine.report(2), of_mutator(3, 2));
-    machine.forget();
-    assert_eq!(rt; machine.report(1), of_mutator(0, 1));
-    machine.step(CLEAR, &mut scanner)?;
-    assert_eq!(rt; machine.report(1), of_mutator(1, 1));
-    assert_eq!(rt; machine.done(), 4);
-    Ok(())
-}
 
 /// Whether each event but the dumps is done.
 fn does_all(machine: &mut Machine, events: &[Event], scanner: &mut OneScan) -> bool {

@@ -1,7 +1,6 @@
-//! Tests of calls that the program doesn't make, or of what its output doesn't show: words of pages, the grey list, roots,
-//! heaps that never collect, runs and judges in memory, machines that forget, quoted words and random scripts; draws,
-//! crews, locks and services in several threads; and what each part does when memory is refused to it. What texts show is in
-//! `script_cases`.
+//! Tests of calls that the program doesn't make, or of what its output doesn't show: words of pages, roots, heaps that never
+//! collect, runs and judges in memory, machines that forget, and random scripts; crews, locks and services in several
+//! threads; and what each part does when memory is refused to it. What texts show is in `script_cases`.
 //!
 //! They are one crate, since most of what a crate of tests costs is building all that it stands on.
 #![tactic(auto)]
@@ -17,15 +16,11 @@ mod called;
 #[cfg(test)]
 mod callers;
 #[cfg(test)]
-mod claim_tests;
-#[cfg(test)]
 mod crew_tests;
 #[cfg(test)]
 mod famine_tests;
 #[cfg(test)]
 mod forget_tests;
-#[cfg(test)]
-mod grey_tests;
 #[cfg(test)]
 mod judge_tests;
 #[cfg(test)]
@@ -40,8 +35,6 @@ mod opening_tests;
 mod page_tests;
 #[cfg(test)]
 mod plain_tests;
-#[cfg(test)]
-mod quote_tests;
 #[cfg(test)]
 mod random_scripts;
 #[cfg(test)]

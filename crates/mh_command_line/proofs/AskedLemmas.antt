@@ -163,11 +163,10 @@ module _ (rows : List Row) where
     pub no_sessions_of_log : is_flagged (codes "log") rows ≡ true → is_flagged (codes "sessions") rows ≡ false
     no_sessions_of_log log = let all = kept (codes "check") rows meets in beside (is_flagged (codes "sessions") rows) (is_flagged (codes "log") rows) (assumption all) log
 
-    pub no_full_of_log : is_flagged (codes "log") rows ≡ true → is_flagged (codes "no-full") rows ≡ false
-    no_full_of_log log = let all = kept (codes "check") rows meets in beside (is_flagged (codes "no-full") rows) (is_flagged (codes "log") rows) (assumption all) log
-
-    pub no_full_alone : is_flagged (codes "sessions") rows ≡ false → is_flagged (codes "no-full") rows ≡ false
-    no_full_alone sessions = let all = kept (codes "check") rows meets in wants (is_flagged (codes "no-full") rows) (is_flagged (codes "sessions") rows) (assumption all) sessions
+    pub no_full_alone : is_flagged (codes "sessions") rows ≡ false → is_flagged (codes "log") rows ≡ false → is_flagged (codes "no-full") rows ≡ false
+    no_full_alone sessions log =
+        let all = kept (codes "check") rows meets in
+        wants (is_flagged (codes "no-full") rows) (is_flagged (codes "sessions") rows) (wants (is_flagged (codes "no-full") rows && not (is_flagged (codes "sessions") rows)) (is_flagged (codes "log") rows) (assumption all) log) sessions
 
   -- `generate` ---------------------------------------------------------------------------------------
 

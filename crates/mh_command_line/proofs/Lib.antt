@@ -5,3 +5,4 @@ mod OrderLemmas
 mod ReadingLemmas
 mod SoundLemmas
 mod TableLemmas
+mod WordLemmas

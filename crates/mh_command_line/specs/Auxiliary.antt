@@ -1,5 +1,5 @@
 -- Auxiliary definitions: what loops, private functions and the insides of types keep. No public contract depends on them.
-use Rattle.std.specs.Prelude.{◌≡◌, ◌≤◌, ℕ, Bool, List, ◌&&◌, nat_le, Option, Some, map, IsSomeAnd, ◌≢◌, None}
+use Rattle.std.specs.Prelude.{◌≡◌, ◌≤◌, ℕ, Bool, List, ◌∷◌, ◌&&◌, nat_le, Option, Some, map, IsSomeAnd, ◌≢◌, None, codes, drop, slice_get, take}
 use Rattle.std.specs.Borrow.{Bor}
 use Rattle.clap.specs.{Words.{Row, Text, one_of, kind_of}, declared.error.kind.ErrorKind.ErrorKind}
 use Rattle.clap.specs.declared.error.kind.ErrorKind.TheVariants.{MissingRequiredArgument, OutOfMemory, ValueValidation}
@@ -81,3 +81,13 @@ IsSaidOfRefusal kind line = ⊥
 -- the option is given with a number that is held so
 abbrev pub HoldsNumber : List Row → Text → ℕ → Type 0
 HoldsNumber rows name held = IsSomeAnd (one_of name rows) (λ text. IsNumber text × IsHeld (number_in_digits text) held)
+
+-- the word with this number, counted from 0, if there is one
+abbrev pub IsArgument : Option (List Text) → ℕ → Option Text → Type 0
+IsArgument None index found = Unit {0}
+IsArgument (Some words) index found = slice_get words index ≡ found
+
+-- the words before this number were read, but for the program's own name
+abbrev pub AreRead : Option (List Text) → ℕ → List Text → Type 0
+AreRead None index words = Unit {0}
+AreRead (Some known) index words = words ≡ codes "metroheap" ∷ drop 1 (take index known)

@@ -1,3 +1,4 @@
+pub mod Arguments
 pub mod Curves
 pub mod Orders
 pub mod Printable

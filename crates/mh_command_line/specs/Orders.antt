@@ -13,8 +13,8 @@ use Rattle.mh_orders.specs.declared.order.Order.TheVariants.{Run, Steps, Show, L
 use Rattle.mh_orders.specs.{declared.order.RunForm.RunForm, declared.order.RunForm.TheVariants.{Replies, History}}
 use Rattle.mh_orders.specs.{declared.order.LiveHeap.LiveHeap, declared.order.LiveHeap.TheVariants.{Machine, World}}
 use Rattle.mh_orders.specs.{declared.order.LiveOptions.LiveOptions, declared.order.RunOptions.RunOptions}
-use Rattle.mh_orders.specs.{declared.order.SessionsOptions.SessionsOptions, declared.order.StepsOptions.StepsOptions}
-use Rattle.mh_orders.specs.declared.order.ConfigOption.{ConfigOption}
+use Rattle.mh_orders.specs.{declared.order.LogOptions.LogOptions, declared.order.SessionsOptions.SessionsOptions}
+use Rattle.mh_orders.specs.{declared.order.StepsOptions.StepsOptions, declared.order.ConfigOption.ConfigOption}
 use Rattle.mh_orders.specs.declared.order.ConfigOption.TheVariants.{Pages, Quantum, Trigger, Every}
 use Rattle.mh_orders.specs.declared.steps.StepsForm.{StepsForm}
 use Rattle.mh_model.specs.{Configs.{configured, configured_under}, declared.config.Config.Config}
@@ -129,6 +129,11 @@ pub record AreSessionsOptions (rows : List Row) (options : SessionsOptions) : Ty
   pub rules : options.rules ≡ rules_given rows
   pub may_be_full : options.may_be_full ≡ not (is_flagged (codes "no-full") rows)
 
+-- the options of a log of threads that is judged
+pub record AreLogOptions (rows : List Row) (options : LogOptions) : Type 0 where
+  pub rules : options.rules ≡ rules_chosen Second rows
+  pub may_be_full : options.may_be_full ≡ not (is_flagged (codes "no-full") rows)
+
 -- the order of a subcommand with its matches
 abbrev pub IsOrder : Text → List Row → Order → Type 0
 IsOrder name rows (Run options) = (name ≡ codes "run") × AreRunOptions rows options
@@ -140,7 +145,7 @@ IsOrder name rows (Live options) = (name ≡ codes "live") × AreLiveOptions row
 IsOrder name rows (Race workers) = (name ≡ codes "race") × (workers ≡ workers_of rows)
 IsOrder name rows (Check config) = (name ≡ codes "check") × (is_flagged (codes "sessions") rows ≡ false) × (is_flagged (codes "no-full") rows ≡ false) × (is_flagged (codes "log") rows ≡ false) × MakesConfig (rules_chosen First rows) rows config
 IsOrder name rows (CheckSessions options) = (name ≡ codes "check") × (is_flagged (codes "sessions") rows ≡ true) × (is_flagged (codes "log") rows ≡ false) × HasNoConfig rows × AreSessionsOptions rows options
-IsOrder name rows (CheckLog rules) = (name ≡ codes "check") × (is_flagged (codes "log") rows ≡ true) × (is_flagged (codes "sessions") rows ≡ false) × (is_flagged (codes "no-full") rows ≡ false) × HasNoConfig rows × (rules ≡ rules_chosen Second rows)
+IsOrder name rows (CheckLog options) = (name ≡ codes "check") × (is_flagged (codes "log") rows ≡ true) × (is_flagged (codes "sessions") rows ≡ false) × HasNoConfig rows × AreLogOptions rows options
 IsOrder name rows Audit = name ≡ codes "audit"
 IsOrder name rows (Migrate config) = (name ≡ codes "migrate") × MakesConfig First rows config
 IsOrder name rows (Curve rules options) = (name ≡ codes "curve") × (is_flagged (codes "history") rows ≡ false) × (is_flagged (codes "pauses") rows ≡ false) × (rules ≡ rules_chosen Second rows) × AreCurveOptions rows options

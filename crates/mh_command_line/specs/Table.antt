@@ -12,7 +12,7 @@ use Rattle.mh_command_line.specs.declared.table.TheConstants.{FIRST_SUBCOMMANDS,
 abbrev pub Choice : Type 0
 Choice = Text × Kind
 
--- a rule of two options, each with its kind, and of a third
+-- a rule of two options, each with its kind, and of a third, which has the kind of the second
 abbrev pub OptionRule : Type 0
 OptionRule = Rule × Kind × Text × Kind × Text × Text
 

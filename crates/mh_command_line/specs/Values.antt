@@ -101,10 +101,10 @@ lacks_profile name rows = lacks names_one name rows
 -- the options break the rule
 abbrev pub breaks : List Row → OptionRule → Bool
 breaks rows (Rule.Wants, kind, name, other_kind, other, third) = is_given kind name rows && not (is_given other_kind other rows)
-breaks rows (Rule.WantsWith, kind, name, other_kind, other, third) = (is_given kind name rows && not (is_given other_kind other rows)) && is_some (one_of third rows)
-breaks rows (Rule.WantsUnless, kind, name, other_kind, other, third) = (is_given kind name rows && not (is_given other_kind other rows)) && not (is_some (one_of third rows))
+breaks rows (Rule.WantsWith, kind, name, other_kind, other, third) = (is_given kind name rows && not (is_given other_kind other rows)) && is_given other_kind third rows
+breaks rows (Rule.WantsUnless, kind, name, other_kind, other, third) = (is_given kind name rows && not (is_given other_kind other rows)) && not (is_given other_kind third rows)
 breaks rows (Rule.Beside, kind, name, other_kind, other, third) = is_given kind name rows && is_given other_kind other rows
-breaks rows (Rule.BesideWith, kind, name, other_kind, other, third) = (is_given kind name rows && is_given other_kind other rows) && is_some (one_of third rows)
+breaks rows (Rule.BesideWith, kind, name, other_kind, other, third) = (is_given kind name rows && is_given other_kind other rows) && is_given other_kind third rows
 breaks rows (Rule.Share, kind, name, other_kind, other, third) = lacks_share name rows
 breaks rows (Rule.Rates, kind, name, other_kind, other, third) = lacks_rates name rows
 breaks rows (Rule.Profile, kind, name, other_kind, other, third) = lacks_profile name rows

@@ -13,7 +13,7 @@ use crate::size_options::size_asked;
 use clap::ArgMatches;
 use mh_model::config::Rules;
 use mh_orders::order::{
-    LiveHeap, LiveOptions, Order, RunForm, RunOptions, SessionsOptions, StepsOptions,
+    LiveHeap, LiveOptions, LogOptions, Order, RunForm, RunOptions, SessionsOptions, StepsOptions,
 };
 use mh_orders::range::RangeOptions;
 use mh_orders::steps::{Steps, StepsForm};
@@ -93,7 +93,7 @@ fn steps_asked(matches: &ArgMatches<'_>) -> Order
 /// What `check` is to do: judge a history under a configuration, or by what its sessions see, or a log with its order. A
 /// history by what its sessions see has the rules that it names, if none are asked for. A log names none, and has the
 /// second.
-#[tactic(auto, using(crate::proofs::AskedLemmas::number_passes, crate::proofs::AskedLemmas::no_config_of_log, crate::proofs::AskedLemmas::no_config_of_sessions, crate::proofs::AskedLemmas::no_sessions_of_log, crate::proofs::AskedLemmas::no_full_of_log, crate::proofs::AskedLemmas::no_full_alone))]
+#[tactic(auto, using(crate::proofs::AskedLemmas::number_passes, crate::proofs::AskedLemmas::no_config_of_log, crate::proofs::AskedLemmas::no_config_of_sessions, crate::proofs::AskedLemmas::no_sessions_of_log, crate::proofs::AskedLemmas::no_full_alone))]
 fn check_asked<'a>(matches: &ArgMatches<'a>) -> Result<Order, OptionFault<'a>>
     requires takes { Takes (codes "check") (rows_of (found_of matches.now)) }
     requires meets { broken_rule (codes "check") (rows_of (found_of matches.now)) ≡ None }
@@ -102,14 +102,14 @@ fn check_asked<'a>(matches: &ArgMatches<'a>) -> Result<Order, OptionFault<'a>>
     ensures rules { IfOk result HasFirstRules }
     ensures fault { IfErr result (HasOptionFault (codes "check") (rows_of (found_of matches.now))) }
 {
+    let may_be_full = !is_flagged(matches, "no-full");
     if is_flagged(matches, "log") {
-        return Ok(Order::CheckLog(rules_asked(matches, Rules::Second)));
+        let rules = rules_asked(matches, Rules::Second);
+        return Ok(Order::CheckLog(LogOptions { rules, may_be_full }));
     }
     if is_flagged(matches, "sessions") {
-        return Ok(Order::CheckSessions(SessionsOptions {
-            rules: rules_given(matches),
-            may_be_full: !is_flagged(matches, "no-full"),
-        }));
+        let rules = rules_given(matches);
+        return Ok(Order::CheckSessions(SessionsOptions { rules, may_be_full }));
     }
     let rules = rules_asked(matches, Rules::First);
     Ok(Order::Check(config_given(matches, rules)?))

@@ -4,6 +4,7 @@
 //! crates of texts take their options without loading `clap`.
 #![tactic(auto)]
 
+pub mod arguments;
 mod asked;
 mod command;
 mod curve_options;

@@ -175,10 +175,10 @@ fn is_broken(matches: &ArgMatches<'_>, row: &RuleRow) -> bool
     let second = is_given(matches, other_kind, other);
     match rule {
         Rule::Wants => first && !second,
-        Rule::WantsWith => first && !second && has_text(matches, third),
-        Rule::WantsUnless => first && !second && !has_text(matches, third),
+        Rule::WantsWith => first && !second && is_given(matches, other_kind, third),
+        Rule::WantsUnless => first && !second && !is_given(matches, other_kind, third),
         Rule::Beside => first && second,
-        Rule::BesideWith => first && second && has_text(matches, third),
+        Rule::BesideWith => first && second && is_given(matches, other_kind, third),
         Rule::Share => lacks_share(matches, name),
         Rule::Rates => lacks_rates(matches, name),
         Rule::Profile => lacks_profile(matches, name),

@@ -4,10 +4,9 @@
 //! there, and `...` follows. A refusal is what `clap` says of the words so shown, if that is the same kind of fault.
 //! Else it is a line that quotes nothing.
 //!
-//! Of the text that `clap` gives for refused words a contract says only which bytes it may have (`printable`). What
-//! `signs` leaves is one line.
-ghost use Rattle.std.specs.{Prelude.{◌≡◌, IfOk}, List.All};
-ghost use Rattle.mh_command_line.specs.{Auxiliary.is_printable, Printable.{IsPrintable, IsPrintableByte, IsSign}};
+//! Of the text that `clap` gives for refused words a contract says only which bytes it may have (`printable`).
+ghost use Rattle.std.specs.Prelude.{◌≡◌, IfOk};
+ghost use Rattle.mh_command_line.specs.{Auxiliary.is_printable, Printable.{IsPrintable, IsPrintableByte}};
 
 use std::alloc::{AllocError, Global};
 use std::convert::AsStr;
@@ -66,24 +65,6 @@ fn printable_byte(byte: u8) -> u8
     } else {
         b'?'
     }
-}
-
-/// The byte, or a question mark if it can't be printed.
-fn sign(byte: u8) -> u8
-    ensures { IsSign result }
-{
-    if is_printable(byte) { byte } else { b'?' }
-}
-
-/// A text with a question mark for each byte that can't be printed, ends of lines among them.
-pub fn signs(alloc: Global, text: &str) -> Result<Vec<u8>, AllocError>
-    ensures { IfOk result (λ text. All IsSign text.items) }
-{
-    let mut bytes = Vec::new(alloc);
-    for byte in text.as_bytes() {
-        bytes.push(sign(*byte))?;
-    }
-    Ok(bytes)
 }
 
 /// A text with a question mark for each byte that ends no line and can't be printed.

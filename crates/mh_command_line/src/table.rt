@@ -47,7 +47,7 @@ pub(crate) enum Rule {
 /// An option: its name, what help calls its value, what is given with it, and what help says.
 pub(crate) type OptionRow = (&'static str, &'static str, Kind, &'static str);
 
-/// A rule of two options, each with its kind, and of a third with a value.
+/// A rule of two options, each with its kind, and of a third, which has the kind of the second.
 pub(crate) type RuleRow = (Rule, Kind, &'static str, Kind, &'static str, &'static str);
 
 /// A subcommand: its name, what help says of it, its usage, its statuses, its options, and their rules in the order in
@@ -227,7 +227,7 @@ pub(crate) const FIRST_SUBCOMMANDS: &[Subcommand] = &[
     (
         "check",
         "Judge a history of version 1: print how many entries a legal one has, the first bad entry, or the line that refuses it",
-        "metroheap check --pages <P> --quantum <K> --trigger <T> --every <E> [--rules <R>] < HISTORY\n       metroheap check --sessions [--no-full] [--rules <R>] < HISTORY\n       metroheap check --log [--rules <R>] < LOG",
+        "metroheap check --pages <P> --quantum <K> --trigger <T> --every <E> [--rules <R>] < HISTORY\n       metroheap check --sessions [--no-full] [--rules <R>] < HISTORY\n       metroheap check --log [--no-full] [--rules <R>] < LOG",
         HISTORY_STATUSES,
         &[
             PAGES,
@@ -250,7 +250,7 @@ pub(crate) const FIRST_SUBCOMMANDS: &[Subcommand] = &[
                 "no-full",
                 "",
                 Kind::Flag,
-                "With --sessions: an entry that is `heap full` is bad",
+                "With --sessions or --log: an entry that is `heap full` is bad",
             ),
             (
                 "log",
@@ -261,7 +261,6 @@ pub(crate) const FIRST_SUBCOMMANDS: &[Subcommand] = &[
         ],
         &[
             (Rule::Beside, FLAG, "sessions", FLAG, "log", ""),
-            (Rule::Beside, FLAG, "no-full", FLAG, "log", ""),
             (Rule::Beside, VALUE, "pages", FLAG, "log", ""),
             (Rule::Beside, VALUE, "quantum", FLAG, "log", ""),
             (Rule::Beside, VALUE, "trigger", FLAG, "log", ""),
@@ -270,7 +269,7 @@ pub(crate) const FIRST_SUBCOMMANDS: &[Subcommand] = &[
             (Rule::Beside, VALUE, "quantum", FLAG, "sessions", ""),
             (Rule::Beside, VALUE, "trigger", FLAG, "sessions", ""),
             (Rule::Beside, VALUE, "every", FLAG, "sessions", ""),
-            (Rule::Wants, FLAG, "no-full", FLAG, "sessions", ""),
+            (Rule::WantsUnless, FLAG, "no-full", FLAG, "sessions", "log"),
         ],
     ),
     (

@@ -2,14 +2,13 @@
 //!
 //! Words that can't be read are refused as not text, or with out of memory. Not text is a word after the program's
 //! own name that isn't UTF-8. That name may be any bytes, since help and usage say `metroheap`.
-//!
-//! No clause says which words are given: tests show it.
-ghost use Rattle.std.specs.Prelude.{IfErr};
-ghost use Rattle.mh_command_line.specs.Orders.{IsUnread};
+ghost use Rattle.std.specs.{Prelude.{IfErr, IfOk, map, option_map}, String.string_bytes};
+ghost use Rattle.mh_command_line.specs.{Arguments.AreWords, Auxiliary.IsArgument, Orders.IsUnread};
 
+use crate::arguments::Arguments;
 use crate::fault::LineFault;
 use std::alloc::{AllocError, Global};
-use std::env::{Env, FillError};
+use std::env::FillError;
 
 /// How the program calls itself, whatever it was called by.
 const NAME: &str = "metroheap";
@@ -18,12 +17,18 @@ const NAME: &str = "metroheap";
 const ROOM: usize = 256;
 
 /// The bytes of a word, if there is one.
-fn bytes_of<E: Env>(env: &E, alloc: Global, index: usize) -> Result<Option<Vec<u8>>, AllocError> {
+fn bytes_of<A: Arguments>(
+    arguments: &A,
+    alloc: Global,
+    index: usize,
+) -> Result<Option<Vec<u8>>, AllocError>
+    ensures { IfOk result (λ found. IsArgument (A.known arguments.now) index (option_map (λ bytes. bytes.items) found)) }
+{
     let mut room = ROOM;
     for _ in 0..usize::BITS {
         let mut bytes = Vec::new(alloc);
         bytes.resize(room, 0u8)?;
-        match env.arg(index, bytes.as_mut_slice()) {
+        match arguments.argument(index, bytes.as_mut_slice()) {
             Ok(length) => {
                 bytes.truncate(length);
                 return Ok(Some(bytes));
@@ -35,10 +40,15 @@ fn bytes_of<E: Env>(env: &E, alloc: Global, index: usize) -> Result<Option<Vec<u
     Err(AllocError)
 }
 
-fn word<E: Env>(env: &E, alloc: Global, index: usize) -> Result<Option<String>, LineFault>
-    ensures { IfErr result IsUnread }
+fn word<A: Arguments>(
+    arguments: &A,
+    alloc: Global,
+    index: usize,
+) -> Result<Option<String>, LineFault>
+    ensures word { IfOk result (λ found. IsArgument (A.known arguments.now) index (option_map string_bytes found)) }
+    ensures unread { IfErr result IsUnread }
 {
-    match bytes_of(env, alloc, index) {
+    match bytes_of(arguments, alloc, index) {
         Ok(Some(bytes)) => match String::from_utf8(bytes) {
             Ok(word) => Ok(Some(word)),
             Err(_) => Err(LineFault::NotText),
@@ -49,8 +59,9 @@ fn word<E: Env>(env: &E, alloc: Global, index: usize) -> Result<Option<String>, 
 }
 
 /// The words of the command line. The first is the program's own name, for which the system may have any bytes.
-pub fn words<E: Env>(env: &E, alloc: Global) -> Result<Vec<String>, LineFault>
-    ensures { IfErr result IsUnread }
+pub fn words<A: Arguments>(arguments: &A, alloc: Global) -> Result<Vec<String>, LineFault>
+    ensures words { IfOk result (λ words. AreWords (A.known arguments.now) (map string_bytes words.items)) }
+    ensures unread { IfErr result IsUnread }
 {
     let mut words = Vec::new(alloc);
     let Ok(name) = NAME.to_string(alloc) else {
@@ -60,12 +71,12 @@ pub fn words<E: Env>(env: &E, alloc: Global) -> Result<Vec<String>, LineFault>
         return Err(LineFault::NoMemory);
     }
     for index in 1..usize::MAX {
-        let Some(word) = word(env, alloc, index)? else {
-            break;
+        let Some(word) = word(arguments, alloc, index)? else {
+            return Ok(words);
         };
         if words.push(word).is_err() {
             return Err(LineFault::NoMemory);
         }
     }
-    Ok(words)
+    Err(LineFault::NoMemory)
 }

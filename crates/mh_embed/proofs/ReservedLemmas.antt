@@ -1,11 +1,11 @@
 -- A machine behind a handle that has room for events.
-use Rattle.std.proofs.Common.{◌≡◌, ℕ, refl, subst}
+use Rattle.std.proofs.Common.{◌≡◌, ℕ, refl, subst, sym}
 use Rattle.mh_model.specs.declared.{command.Event.Event, reply.Reply.Reply}
 use Rattle.mh_machine.specs.{Reserved.ReservedEventsAskForNoMemory, Running.{Running, Does, Forgets, MayAskForMemory}}
 use Rattle.mh_embed.specs.{declared.driver.Driver.Driver, declared.driver.Driver.TheVariants.Collects}
 use Rattle.mh_embed.specs.{declared.status.Status.Status, Drivers.Collected}
 use Rattle.mh_embed.specs.Driving.{ByMachine, ByWorld, IsUndone, Starved, Takes}
-use Rattle.mh_embed.specs.Laws.{AtFirst, Done, Forgotten, ReservedEventsAreNotRefusedMemory, Since}
+use Rattle.mh_embed.specs.Laws.{AtFirst, Done, Forgotten, ReservedEventsAreNotRefusedMemory, Since, Telling}
 use Rattle.mh_machine.specs.Reserved as machines
 
 pub same_machine : (was now : Collected) → Collects was ≡ Collects now → was ≡ now
@@ -38,6 +38,10 @@ is_since first _ _ (Forgotten count was now since forgetting) =
     let before : IsSince first.machine count (Collects was) = is_since first count (Collects was) since in
     let forgets : Forgets before.now.machine now.machine = subst (λ (from : Collected). Forgets from.machine now.machine) (same_machine was before.now before.is) forgetting.forgets in
     record { now = now; is = refl; since = machines.Forgotten count before.now.machine now.machine before.since forgets }
+is_since first _ _ (Telling count was tells since) =
+    let before : IsSince first.machine count (Collects was) = is_since first count (Collects was) since in
+    let counted : machines.Since first.machine count was.machine = subst (λ (from : Collected). machines.Since first.machine count from.machine) (sym (same_machine was before.now before.is)) before.since in
+    record { now = record was { tells = tells }; is = refl; since = counted }
 
 -- memory is refused only to an event that may ask for it
 starved_asks : (driver : Driver) (event : Event) (ends : Status) (now : Collected) → ends ≡ Status.NoMemory → driver ≡ Collects now → IsUndone driver event ends → MayAskForMemory now.machine.room event

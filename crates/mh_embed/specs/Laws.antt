@@ -36,11 +36,12 @@ HasSession (Event.Control control) = Unit {0}
 abbrev pub EventsHaveNumbers : Type 0
 EventsHaveNumbers = (asked : Event) → HasSession asked → is_sayable (event_phrase asked) ≡ true → (n : EventNumbers) × (event_numbered n ≡ Some asked)
 
--- events were done and traces forgotten in turn, and so many events since the first of these moments or the last forgetting
+-- events were done, traces forgotten and the keeping of deeds asked for or not in turn, and so many events were done since the first of these moments or the last forgetting
 pub data Since (first : Driver) : ℕ → Driver → Type 0 where
   AtFirst : Since first 0 first
   Done : (count : ℕ) (old new : Driver) (event : Event) (given : Reply) → Since first count old → Takes old event given new → Since first (suc count) new
   Forgotten : (count : ℕ) (was now : Collected) → Since first count (Collects was) → Forgetting was now → Since first 0 (Collects now)
+  Telling : (count : ℕ) (was : Collected) (tells : Bool) → Since first count (Collects was) → Since first count (Collects (record was { tells = tells }))
 
 -- Once there is room for some events, memory is refused to none of the next so many, unless it is a dump; and so to none of so many after each time that the trace is forgotten
 abbrev pub ReservedEventsAreNotRefusedMemory : Type 0

@@ -17,16 +17,19 @@ pub fn calls_keep_the_promise()
 }
 
 /// Each call that may change what is driven is one of those that keep the promise.
+#[tactic(auto, using(crate::proofs::PromiseLemmas::are_calls))]
 pub fn ends_are_calls()
     ensures { EndsAreCalls }
 {}
 
 /// A line whose event is done is answered as in a run line by line.
+#[tactic(auto, using(crate::proofs::TurnLemmas::are_turns))]
 pub fn lines_are_turns()
     ensures { LinesAreTurns }
 {}
 
 /// Each event can be asked as numbers.
+#[tactic(auto, using(crate::proofs::NumberLemmas::have_numbers))]
 pub fn events_have_numbers()
     ensures { EventsHaveNumbers }
 {}

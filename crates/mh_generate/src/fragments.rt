@@ -19,12 +19,12 @@ fn object(fields: u32, random: &mut Random) -> Command {
     make(OBJECT, references, fields.saturating_sub(references))
 }
 
-/// Objects of which a table of so many entries keeps one, in the place of another.
+/// Objects of which a table of so many entries keeps two, in the place of others.
 fn litter(fields: u32, entries: u32, random: &mut Random) -> Plan {
     Plan::of(&[
         object(fields, random),
         object(fields, random),
-        object(fields, random),
+        put(TABLE, random.below(entries.max(1)), OBJECT),
         object(fields, random),
         object(fields, random),
         put(TABLE, random.below(entries.max(1)), OBJECT),
@@ -47,12 +47,12 @@ fn touch(entries: u32, random: &mut Random) -> Plan {
 
 /// The plan of a session whose table is to have so many entries, while objects have so many fields as a rule.
 pub(crate) fn plan(session: &Session, entries: u32, fields: u32, random: &mut Random) -> Plan {
-    if session.shape(TABLE).references < entries || random.chance(1, 200) {
+    if session.shape(TABLE).references < entries || random.chance(1, 1_000) {
         return Plan::of(&[make(TABLE, entries, 0)]);
     }
     match random.below(20) {
-        0..=14 => litter(fields, entries, random),
-        15..=16 => {
+        0..=3 => litter(fields, entries, random),
+        4..=5 => {
             let other = random.below(61);
             litter(other, entries, random)
         }

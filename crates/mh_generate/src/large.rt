@@ -1,4 +1,5 @@
-//! Objects of many blocks, with sizes at and beside the limits of blocks and spines: the profile `large`.
+//! Objects of many blocks, with sizes at and beside the limits of blocks and spines: the profile `large`. One session at a
+//! time has an object with a full spine, so that the heap of most scripts is rarely full.
 
 use crate::plan::Plan;
 use crate::random::Random;
@@ -23,6 +24,9 @@ const TALLEST: [u32; 3] = [215_999, 216_000, 216_001];
 /// Numbers of fields that lie at the ends of blocks and of spines.
 const ENDS: [u32; 10] = [0, 1, 59, 60, 61, 119, 120, 3_599, 3_600, 3_601];
 
+/// The most references of an object as a rule, so that it is soon marked.
+const FEW: u32 = 600;
+
 /// The slot of the object with most blocks.
 const TALL_SLOT: u32 = 0;
 
@@ -37,12 +41,12 @@ fn small_slot(random: &mut Random) -> u32 {
 
 /// So many fields as references and numbers.
 fn parted(fields: u32, random: &mut Random) -> Shape {
-    let references = match random.below(8) {
-        0 => 0,
-        1 => fields,
-        2 => fields / 2,
-        3..=4 => fields.min(60),
-        _ => random.below(fields.max(1)),
+    let references = match random.below(16) {
+        0..=1 => 0,
+        2 => fields,
+        3 => fields / 2,
+        4..=8 => fields.min(60),
+        _ => random.below(fields.clamp(1, FEW)),
     };
     Shape {
         references,
@@ -101,27 +105,31 @@ fn touch(session: &Session, random: &mut Random) -> Plan {
     }
 }
 
-/// A new object of some size, the larger the more rarely. Under the second rules one more field is asked for now and then
-/// than an object may have.
-fn grow(rules: Rules, random: &mut Random) -> Plan {
+/// A new object of some size, the larger the more rarely. Those with a full spine come in the session's turn. Under the
+/// second rules one more field is asked for now and then than an object may have.
+fn grow(rules: Rules, is_turn: bool, random: &mut Random) -> Plan {
     let most = match rules {
         Rules::First => SPINE_FIELDS,
         Rules::Second => u32::MAX,
     };
     match random.below(100) {
+        80..=95 if is_turn => enlarge(TALL_SLOT, random.one_of(&TALL).min(most), random),
+        96..=99 if is_turn => enlarge(TALL_SLOT, random.one_of(&TALLEST).min(most), random),
         0..=64 => enlarge(small_slot(random), random.one_of(&SMALL), random),
-        65..=91 => enlarge(middle_slot(random), random.one_of(&MIDDLE), random),
-        92..=97 => enlarge(TALL_SLOT, random.one_of(&TALL).min(most), random),
-        _ => enlarge(TALL_SLOT, random.one_of(&TALLEST).min(most), random),
+        _ => enlarge(middle_slot(random), random.one_of(&MIDDLE), random),
     }
 }
 
-pub(crate) fn plan(session: &Session, rules: Rules, random: &mut Random) -> Plan {
+/// The plan of a session. If it isn't its turn, it lets go of the object with most blocks.
+pub(crate) fn plan(session: &Session, rules: Rules, is_turn: bool, random: &mut Random) -> Plan {
+    if !is_turn && !session.is_empty(TALL_SLOT) {
+        return Plan::of(&[clear(TALL_SLOT)]);
+    }
     match random.below(100) {
-        0..=44 => grow(rules, random),
-        45..=79 => touch(session, random),
+        0..=19 => grow(rules, is_turn, random),
+        20..=79 => touch(session, random),
         80..=84 => Plan::of(&[copy(small_slot(random), middle_slot(random))]),
-        85..=89 => Plan::of(&[clear(middle_slot(random)), clear(small_slot(random))]),
+        85..=94 => Plan::of(&[clear(middle_slot(random)), clear(small_slot(random))]),
         _ => Plan::of(&[clear(TALL_SLOT)]),
     }
 }

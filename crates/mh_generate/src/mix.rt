@@ -30,7 +30,8 @@ const MIXED: [Profile; 7] = [
 /// The most events of a turn.
 const TURN: u32 = 400;
 
-/// For how many events the profile of fragments makes objects of one size as a rule.
+/// For how many events the profile of fragments makes objects of one size as a rule, and that of large objects lets one
+/// session have those with a full spine.
 const ROUND: u32 = 250;
 
 /// How many sizes objects of one block have: 0 to 60 fields.
@@ -97,6 +98,7 @@ impl Mix {
         requires { who < SPEAKERS }
     {
         let profile = self.profile();
+        let round = self.done / ROUND;
         let Options {
             config,
             rules,
@@ -119,10 +121,13 @@ impl Mix {
             Profile::Lists => lists::plan(random),
             Profile::Trees => trees::plan(session, random),
             Profile::Wide => wide::plan(session, random),
-            Profile::Large => large::plan(session, rules, random),
+            Profile::Large => {
+                let is_turn = round % u32::from(sessions) == who as u32;
+                large::plan(session, rules, is_turn, random)
+            }
             Profile::Fragments => {
                 let entries = (config.pages / u32::from(sessions)).clamp(4, SPINE_FIELDS);
-                let fields = self.done / ROUND % SIZES * SIZE_STEP % SIZES;
+                let fields = round % SIZES * SIZE_STEP % SIZES;
                 fragments::plan(session, entries, fields, random)
             }
             Profile::Refusals => refusals::plan(session, random),

@@ -39,6 +39,11 @@ impl Session {
         self.shapes.get(slot as usize).copied().unwrap_or(NOTHING)
     }
 
+    /// Whether a slot likely names nothing.
+    pub(crate) fn is_empty(&self, slot: u32) -> bool {
+        self.shape(slot) == NOTHING
+    }
+
     fn remember(&mut self, slot: u32, shape: Shape) {
         if slot < SLOTS {
             self.shapes[slot as usize] = shape;
@@ -78,7 +83,7 @@ impl Session {
             | Command::Shape { slot } => slot,
             _ => return command,
         };
-        if self.shape(slot) == NOTHING {
+        if self.is_empty(slot) {
             make(slot, 2, 2)
         } else {
             command

@@ -174,6 +174,7 @@ fn read_measured(alloc: Global, event: Words<'_>, rest: &[u8]) -> Result<Option<
 }
 
 /// The entry with its units that words are.
+#[tactic(auto, using(crate::proofs::EntryLemmas::no_units))]
 fn measured_of(alloc: Global, words: Words<'_>) -> Result<Option<Measured>, NoMemory>
     ensures measured { IfOk result (λ measured. measured ≡ measured_of words.entry) }
     ensures memory { OnErr result (IsSome (measured_of words.entry)) }

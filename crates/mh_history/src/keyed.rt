@@ -59,6 +59,7 @@ fn spent_with(units: &[u8], phase: &[u8]) -> Option<Reply>
 }
 
 /// The reply to `stat` whose words these are, without the first.
+#[tactic(auto, using(crate::proofs::KeyedLemmas::stat_five))]
 pub fn stat_of(words: Words<'_>) -> Option<Reply>
     ensures { result ≡ option_and_then stat_of
         (values (codes "live" ∷ codes "old" ∷ codes "phase" ∷ codes "cycle" ∷ []) words.entry) }

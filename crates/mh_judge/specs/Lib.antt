@@ -1,4 +1,5 @@
 pub mod Faults
+pub mod FaultTexts
 pub mod Judgements
 pub mod Histories
 pub mod Promised

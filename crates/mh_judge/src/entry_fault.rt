@@ -1,5 +1,8 @@
 //! What is wrong with an entry of a history, and the text that says it. It is one too many, or its reply or its units
-//! aren't the right ones. No contract speaks of the text: tests compare it.
+//! aren't the right ones.
+ghost use Rattle.std.specs.Prelude.{Some};
+ghost use Rattle.mh_judge.specs.FaultTexts.{brief_text, entry_fault_text, optional_item_text};
+
 use mh_model::dump::DumpItem;
 use mh_model::reply::Reply;
 use mh_text::reply_text::{ItemText, ReplyText};
@@ -37,6 +40,8 @@ pub enum EntryFault {
 }
 
 impl fmt::Display for EntryFault {
+    ghost output = { λ fault. Some (entry_fault_text fault) };
+
     fn fmt<W: fmt::Write>(&self, f: &mut fmt::Formatter<W>) -> fmt::Result {
         match self {
             EntryFault::TooMany => f.write_str("a history has at most 1000000 entries"),
@@ -53,11 +58,11 @@ impl fmt::Display for EntryFault {
                 given,
                 right,
             } => {
-                let given = OptionalItem(*given);
-                let right = OptionalItem(*right);
                 write!(
                     f,
-                    "item {number} of the dump is{given}, and right is{right}"
+                    "item {number} of the dump is{}, and right is{}",
+                    OptionalItem(given),
+                    OptionalItem(right)
                 )
             }
             EntryFault::Units { given, right } => {
@@ -75,6 +80,8 @@ impl fmt::Display for EntryFault {
 struct BriefReply<'a>(&'a Reply);
 
 impl fmt::Display for BriefReply<'_> {
+    ghost output = { λ it. Some (brief_text it.0.now) };
+
     fn fmt<W: fmt::Write>(&self, f: &mut fmt::Formatter<W>) -> fmt::Result {
         match self.0 {
             Reply::Dump(dump) => write!(f, "a dump of {} items", dump.items().len()),
@@ -85,12 +92,14 @@ impl fmt::Display for BriefReply<'_> {
 
 /// An item with a space before each word, if there is one.
 #[derive(Clone, Copy)]
-struct OptionalItem(Option<DumpItem>);
+struct OptionalItem<'a>(&'a Option<DumpItem>);
 
-impl fmt::Display for OptionalItem {
+impl fmt::Display for OptionalItem<'_> {
+    ghost output = { λ it. Some (optional_item_text it.0.now) };
+
     fn fmt<W: fmt::Write>(&self, f: &mut fmt::Formatter<W>) -> fmt::Result {
         match self.0 {
-            Some(item) => write!(f, "{}", ItemText(item)),
+            Some(item) => write!(f, "{}", ItemText(*item)),
             None => f.write_str(" none"),
         }
     }

@@ -83,6 +83,7 @@ fn next_whole<F: Follower>(
 }
 
 /// Reads the lines that are left, of which each is to be an entry.
+#[tactic(auto, using(crate::proofs::FollowingLemmas::read_more))]
 fn read_on<F: Follower>(alloc: Global, follower: &F, lines: &mut Lines<'_>) -> Result<(), TextError>
     ensures read { IfOk result (λ done. (entries : List F.Entry) × AreRead (F.of_line follower.now) lines.old lines.new entries) }
     ensures line { IfErr result (Refuses (entries_left (F.of_line follower.now) (whole lines.old))) }

@@ -44,6 +44,7 @@ use mh_text::text_error::TextError;
 use std::alloc::Global;
 
 /// What is found of a text of this version whose lines that are left are all to be entries.
+#[tactic(auto, using(crate::proofs::FollowingLemmas::bad_line, crate::proofs::FollowingLemmas::judged_refused))]
 fn judge_lines<F: Follower>(
     alloc: Global,
     mut follower: F,

@@ -67,6 +67,7 @@ impl Task for Migration {
 
     ghost does = { λ old text ended out new. IsMigration old.config text ended out };
 
+    #[tactic(auto, using(crate::proofs::LongLemmas::migration_long))]
     fn most_bytes() -> usize {
         HISTORY_BYTES
     }

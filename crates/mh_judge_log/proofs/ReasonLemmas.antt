@@ -1,19 +1,18 @@
 -- The first bad line of a log with an order, and the lines that are passed before it.
-use Rattle.std.proofs.Common.{◌≡◌, ◌≢◌, ◌∙◌, ℕ, suc, ◌<◌, ◌≤◌, ◌==◌, nat_le, Bool, true, false, ◌||◌, Option, Some, None, IsSome, option_and_then, if◌then◌else◌, List, [], ◌∷◌, ◌++◌, length, drop, ap, sym, refl, subst, append_assoc, append-nil, arith}
+use Rattle.std.proofs.Common.{◌≡◌, ◌≢◌, ◌∙◌, ℕ, suc, ◌<◌, ◌≤◌, Bool, true, false, ◌||◌, Option, Some, None, if◌then◌else◌, List, [], ◌∷◌, ◌++◌, length, drop, ap, sym, refl, subst, append_assoc, append-nil, arith}
 use Rattle.std.proofs.{lemmas.Bool.Decides.nat_tests, lemmas.List.{length-append, nil_from_length}}
 use Rattle.std.specs.{Prelude.codes, List.list_any}
-use Rattle.mh_model.specs.{declared.command.Command.Command, declared.command.Event.Event, declared.reply.Reply.Reply}
 use Rattle.mh_model.specs.{declared.history.Entry.Entry, declared.history.Version.TheVariants.One}
-use Rattle.mh_model.specs.{Bytes.{Text, cut_after, is_text, number, words}, Forms.{command_of, within}}
-use Rattle.mh_model.specs.{HistoryTexts.{Halves, entry_of, event_of, halves_at, session_of}, Replies.reply_of}
+use Rattle.mh_model.specs.{Bytes.{Text, cut_after, is_text, number, words}, HistoryTexts.entry_of}
 use Rattle.mh_model.specs.Script.{Reading, BadLine, Means, reading_map}
 use Rattle.mh_text.specs.Pieces.{Lines, TakesLine, lines_from}
 use Rattle.mh_text.proofs.PieceLemmas.{empty_left}
 use Rattle.mh_judge_log.specs.{declared.timed.Timed.Timed, Beginnings.{HasTimes, begins_with_star}}
 use Rattle.mh_judge_log.specs.Auxiliary.{log_left, order_left}
 use Rattle.mh_judge_log.specs.Logs.{Taken, log_from, order_end, order_from, ordered_reading, taken_by, timed_of}
+use Rattle.mh_judge_log.specs.{declared.reason.FirstReason.FirstReason, declared.reason.LogLineReason.LogLineReason}
 use Rattle.mh_judge_log.specs.declared.reason.LogReason.{LogReason}
-use Rattle.mh_judge_log.specs.Reasons.{IsLaterLine, IsLineReason, IsLogReason, begins_order}
+use Rattle.mh_judge_log.specs.Reasons.{IsFirstReason, IsLaterLine, IsLineReason, IsLogReason, begins_order}
 use Rattle.mh_judge_log.proofs.LogLemmas.{command_bad, command_taken, log_empty, log_ended, log_first, log_long, log_wrong, order_begun}
 use Rattle.mh_judge_log.proofs.{OrderLemmas.{line_bad, line_takes}, TimedLemmas.some_entry}
 
@@ -23,26 +22,6 @@ lacks_entry line rest begin end has ordered star none = by (entry_of One rest) r
   by : (read : Option Entry) → entry_of One rest ≡ read → entry_of One rest ≡ None
   by None is = is
   by (Some entry) is = let both : ◌≡◌ {A = Option Timed} None (Some (record { begin = begin; end = end; entry = entry })) = sym none ∙ some_entry line rest begin end entry has ordered star is in cc
-
--- a session is not `*`, so what follows it is to be a command
-session_star : (word : Text) (who : ℕ) → session_of word ≡ Some who → is_text word (codes "*") ≡ false
-session_star [] who is = refl
-session_star (byte ∷ bytes) who is = by (byte == 115) refl is where
-  by : (tag : Bool) → (byte == 115) ≡ tag → option_and_then (λ who. within (nat_le who 8) who) (if tag then number bytes else None) ≡ Some who → is_text (byte ∷ bytes) (codes "*") ≡ false
-  by true tag found = let other : (byte == 42) ≡ false = grind (arith, nat_tests) in rw other refl
-  by false tag found = cc
-
-pub some_event : (session : Text) (more : List Text) (who : ℕ) (command : Command) → session_of session ≡ Some who → command_of more ≡ Some command → IsSome (event_of One (session ∷ more))
-some_event session more who command is asked = rw (session_star session who is, is, asked) refl
-
-pub no_reply : (entry : List Text) (halves : Halves) → entry_of One entry ≡ None → halves_at (codes "=") entry ≡ Some halves → IsSome (event_of One halves.before) → reply_of One halves.after ≡ None
-no_reply entry halves none is some = by (event_of One halves.before) (reply_of One halves.after) refl refl some where
-  by : (asked : Option Event) (answer : Option Reply) → event_of One halves.before ≡ asked → reply_of One halves.after ≡ answer → IsSome asked → reply_of One halves.after ≡ None
-  by None answer event reply some = cc
-  by (Some asked) None event reply some = reply
-  by (Some asked) (Some answer) event reply some =
-      let read : entry_of One entry ≡ Some (record { event = asked; reply = answer }) = rw (is, event, reply) refl in
-      cc
 
 -- Bad lines --------------------------------------------------------------------------------------
 
@@ -168,15 +147,9 @@ module _ (n : ℕ) (mid new : Lines) (number : ℕ) (line : Text) (takes : Takes
     }
 
 -- what is said of a line is said of the text
-at_line : (text : Text) (n : ℕ) (between : List Text) (line : Text) (of : LogReason) → IsLaterLine text n between line → IsLineReason (begins_order between) line of → IsLogReason text n of
-at_line text n between line (LogReason.Command of) at is = (between, line, at, is)
-at_line text n between line (LogReason.NoSession quoted) at is = (between, line, at, is)
-at_line text n between line (LogReason.NoneLeft quoted) at is = (between, line, at, is)
-at_line text n between line other at is = absurd is
-
-pub told_line : (text : Text) (n : ℕ) (in_order : Bool) (mid new : Lines) (number : ℕ) (line : Text) (of : LogReason) → TakesLine mid new number line → number ≡ n → HasPassed text n in_order mid → IsLineReason in_order line of → IsLogReason text n of
-told_line text n in_order mid new number line of takes reached has is =
-    at_line text n has.passed line of (later_line n mid new number line takes reached text in_order has) (subst (λ b. IsLineReason b line of) (sym has.order) is)
+pub told_line : (text : Text) (n : ℕ) (in_order : Bool) (mid new : Lines) (number : ℕ) (line : Text) (r : LogLineReason) → TakesLine mid new number line → number ≡ n → HasPassed text n in_order mid → IsLineReason in_order line r → IsLogReason text n (LogReason.Line r)
+told_line text n in_order mid new number line r takes reached has is =
+    (has.passed, line, later_line n mid new number line takes reached text in_order has, subst (λ b. IsLineReason b line r) (sym has.order) is)
 
 -- First lines ------------------------------------------------------------------------------------
 
@@ -195,10 +168,10 @@ module _ (text : Text) (n : ℕ) (bad : ordered_reading text ≡ BadLine n) wher
     cut_reason none some =
         (one_bad none ∙ ap (λ (ls : List Text). suc (length ls)) (sym none), λ nothing. some (nil_from_length text (grind (arith, nat_tests, (empty_left 1 text).1 (nothing, none)))))
 
-    pub first_reason : (new : Lines) (number : ℕ) (line : Text) → TakesLine (lines_from 1 text) new number line → is_text line (codes "log 1") ≡ false → IsLogReason text n LogReason.NotLog
-    first_reason new number line takes other =
+    pub told_first : (new : Lines) (number : ℕ) (line : Text) (r : FirstReason) → TakesLine (lines_from 1 text) new number line → is_text line (codes "log 1") ≡ false → IsFirstReason line r → IsLogReason text n (LogReason.First r)
+    told_first new number line r takes other is =
         let same : BadLine n ≡ BadLine 1 = sym bad ∙ log_wrong text new number line short takes other in
-        (cc, (line, new.lines, takes.taken, other))
+        (line, (cc, (new.lines, takes.taken)), is)
 
 -- The end ----------------------------------------------------------------------------------------
 

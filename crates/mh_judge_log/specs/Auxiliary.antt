@@ -1,6 +1,6 @@
 -- Auxiliary definitions: what loops, private functions and the insides of types keep. No public contract depends on them.
 use Rattle.std.specs.Prelude.{◌≡◌, ℕ, Option, Some, None, IsSome, Bool, false, List, [], ◌∷◌}
-use Rattle.mh_model.specs.{Bytes.{Text, number, words}, Script.{Reading, reading_map}, declared.config.Rules.Rules}
+use Rattle.mh_model.specs.{Bytes.{Text, words}, Script.{Reading, reading_map}, declared.config.Rules.Rules}
 use Rattle.mh_text.specs.Pieces.{Lines}
 use Rattle.mh_judge_log.specs.{declared.timed.Timed.Timed, Logs.{is_of, log_from, order_from, timed_of}}
 use Rattle.mh_judge_log.specs.{Faults.IsOrderFault, Judgements.LogJudgement}
@@ -36,5 +36,5 @@ has_of who None = false
 has_of who (Some timed) = is_of who timed
 
 -- what a judgement says of an order beside the verdict is true
-abbrev pub IsOrderExplained : Rules → List Timed → LogJudgement → Type 0
-IsOrderExplained rules order = IsExplained (λ line reason. ⊥) (IsOrderFault rules order)
+abbrev pub IsOrderExplained : Bool → Rules → List Timed → LogJudgement → Type 0
+IsOrderExplained may_be_full rules order = IsExplained (λ line reason. ⊥) (IsOrderFault may_be_full rules order)

@@ -2,7 +2,9 @@ pub mod Logs
 pub mod Beginnings
 pub mod Times
 pub mod Orders
+pub mod Tallies
 pub mod Faults
+pub mod Texts
 pub mod Reasons
 pub mod Judgements
 pub mod Linearizations

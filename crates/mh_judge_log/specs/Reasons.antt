@@ -1,41 +1,62 @@
 -- Reasons: why the first bad line of a log with an order is outside the grammar.
-use Rattle.std.specs.Prelude.{◌≡◌, ◌≢◌, ℕ, suc, ◌<◌, Bool, true, false, Some, None, IsSome, List, [], ◌∷◌, ◌++◌, length, drop, codes}
+use Rattle.std.specs.Prelude.{◌≡◌, ◌≢◌, ◌⊎◌, ℕ, suc, ◌<◌, ◌≤◌, Bool, true, false, None, IsSome, List, [], ◌∷◌, ◌++◌, length, drop, slice_index, codes}
 use Rattle.std.specs.List.{list_any}
-use Rattle.mh_model.specs.{declared.history.Version.TheVariants.One, Bytes.{Text, cut_after, is_text, words}}
-use Rattle.mh_model.specs.{Forms.command_of, HistoryTexts.{Halves, halves_at, session_of}, Replies.reply_of}
-use Rattle.mh_reasons.specs.{Lines.HasByteFault, Quotes.Quotes, Reasons.word_at}
-use Rattle.mh_judge_log.specs.{declared.reason.CommandReason.CommandReason, declared.reason.LogReason.LogReason}
+use Rattle.mh_model.specs.{declared.history.Version.Version, declared.history.Version.TheVariants.One}
+use Rattle.mh_model.specs.{Bytes.{Text, cut_after, is_text, number, words}, Forms.u64, HistoryTexts.session_of}
+use Rattle.mh_reasons.specs.{HistoryReasons.{IsEntryWordsReason, IsFirstLine}, Lines.{HasByteFault, IsPlain}}
+use Rattle.mh_reasons.specs.{Numbers.HasNumberFault, Quotes.Quotes, Reasons.{IsHistory, word_at}}
+use Rattle.mh_judge_log.specs.{declared.reason.CommandReason.CommandReason, declared.reason.FirstReason.FirstReason}
+use Rattle.mh_judge_log.specs.{declared.reason.LogLineReason.LogLineReason, declared.reason.LogReason.LogReason}
 use Rattle.mh_judge_log.specs.Beginnings.{HasTimes, begins_with_star}
+
+-- First lines ------------------------------------------------------------------------------------
+
+-- words that begin neither a script nor a history
+pub record AreUnknown (words : List Text) : Type 0 where
+  pub script : word_at words 0 ≢ codes "config"
+  pub history : (version : Version) → ¬ IsHistory words version
+
+-- What a reason says of a first line that isn't `log 1`. Bytes come before words
+abbrev pub IsFirstReason : Text → FirstReason → Type 0
+IsFirstReason line (FirstReason.Bytes fault) = HasByteFault line fault
+IsFirstReason line (FirstReason.History version) = IsPlain line × IsHistory (words line) version
+IsFirstReason line FirstReason.Script = IsPlain line × (word_at (words line) 0 ≡ codes "config")
+IsFirstReason line FirstReason.NotLog = IsPlain line × (is_text line (codes "log 1") ≡ false) × AreUnknown (words line)
 
 -- Commands ---------------------------------------------------------------------------------------
 
--- a line has two times and these words after them
-abbrev pub HasTimed : Text → (ℕ → ℕ → List Text → Type 0) → Type 0
-HasTimed line P = (begin : ℕ) × (end : ℕ) × (rest : List Text) × HasTimes (words line) begin end rest × P begin end rest
+-- What a reason says of a word that is no time
+abbrev pub IsTimeReason : Text → CommandReason → Type 0
+IsTimeReason word (CommandReason.Time quoted fault) = Quotes word quoted × HasNumberFault u64 word fault
+IsTimeReason word _ = ⊥
 
--- the words before and after the `=` of an entry
-abbrev pub HasHalves : List Text → (List Text → List Text → Type 0) → Type 0
-HasHalves entry P = (halves : Halves) × (halves_at (codes "=") entry ≡ Some halves) × P halves.before halves.after
+-- words are two times and these after them, one or more
+abbrev pub HasTimed : List Text → (ℕ → ℕ → List Text → Type 0) → Type 0
+HasTimed words P = (begin : ℕ) × (end : ℕ) × (called : List Text) × HasTimes words begin end called × (called ≢ []) × P begin end called
 
--- What a reason says of the words before it, which are no command of a session
-abbrev pub IsAskedReason : List Text → CommandReason → Type 0
-IsAskedReason asked (CommandReason.NoSession quoted) = (session_of (word_at asked 0) ≡ None) × Quotes (word_at asked 0) quoted
-IsAskedReason asked (CommandReason.NoCommand quoted) = (command_of (drop 1 asked) ≡ None) × Quotes (word_at asked 0) quoted
-IsAskedReason asked _ = ⊥
+-- What a reason says of the words of a line that is no command. How many they are comes first, and then they come from left to right
+abbrev pub IsCommandReason : List Text → CommandReason → Type 0
+IsCommandReason words CommandReason.FewWords = length words < 3
+IsCommandReason words (CommandReason.Time quoted fault) =
+    (2 < length words)
+    × (IsTimeReason (word_at words 0) (CommandReason.Time quoted fault) ⊎ (IsSome (number (word_at words 0)) × IsTimeReason (word_at words 1) (CommandReason.Time quoted fault)))
+IsCommandReason words CommandReason.Backwards = HasTimed words (λ begin end called. end < begin)
+IsCommandReason words CommandReason.Control = HasTimed words (λ begin end called. (begin ≤ end) × (begins_with_star called ≡ true))
+IsCommandReason words (CommandReason.Entry r) = HasTimed words (λ begin end called. (begin ≤ end) × (begins_with_star called ≡ false) × IsEntryWordsReason One called r)
 
--- and of the words after the times, which are no entry
-abbrev pub IsEntryReason : List Text → CommandReason → Type 0
-IsEntryReason entry CommandReason.NoReply = halves_at (codes "=") entry ≡ None
-IsEntryReason entry (CommandReason.Reply quoted) = HasHalves entry (λ asked answer. (reply_of One answer ≡ None) × Quotes (word_at answer 0) quoted)
-IsEntryReason entry of = HasHalves entry (λ asked answer. IsAskedReason asked of)
+-- What a reason says of a line of an order, which takes no command
+abbrev pub IsOrderReason : Text → LogLineReason → Type 0
+IsOrderReason line (LogLineReason.NoSession quoted) = (session_of line ≡ None) × Quotes line quoted
+IsOrderReason line (LogLineReason.NoneLeft quoted) = IsSome (session_of line) × Quotes line quoted
+IsOrderReason line _ = ⊥
 
--- What a reason says of a line that is no command
-abbrev pub IsCommandReason : Text → CommandReason → Type 0
-IsCommandReason line (CommandReason.Bytes fault) = HasByteFault line fault
-IsCommandReason line CommandReason.NoTimes = (begin end : ℕ) (word : Text) (more : List Text) → ¬ HasTimes (words line) begin end (word ∷ more)
-IsCommandReason line CommandReason.Backwards = HasTimed line (λ begin end rest. end < begin)
-IsCommandReason line CommandReason.Control = HasTimed line (λ begin end rest. begins_with_star rest ≡ true)
-IsCommandReason line of = HasTimed line (λ begin end rest. IsEntryReason rest of)
+-- What a reason says of a line after the first, before the order or in it. An empty line and a comment come first, and bytes come before words
+abbrev pub IsLineReason : Bool → Text → LogLineReason → Type 0
+IsLineReason in_order line LogLineReason.Blank = line ≡ []
+IsLineReason in_order line LogLineReason.Comment = slice_index line 0 ≡ 35
+IsLineReason in_order line (LogLineReason.Bytes fault) = (line ≢ []) × (slice_index line 0 ≢ 35) × HasByteFault line fault
+IsLineReason in_order line (LogLineReason.Command r) = (line ≢ []) × (slice_index line 0 ≢ 35) × IsPlain line × (in_order ≡ false) × IsCommandReason (words line) r
+IsLineReason in_order line r = (line ≢ []) × (slice_index line 0 ≢ 35) × IsPlain line × (in_order ≡ true) × IsOrderReason line r
 
 -- Texts ------------------------------------------------------------------------------------------
 
@@ -55,19 +76,12 @@ pub record EndsBefore (text : Text) (n : ℕ) : Type 0 where
   pub numbered : n ≡ suc (length (cut_after 10 text).pieces)
   pub whole : (cut_after 10 text).rest ≡ []
 
--- What a reason says of a line after the first, before the order or in it
-abbrev pub IsLineReason : Bool → Text → LogReason → Type 0
-IsLineReason in_order line (LogReason.Command of) = (in_order ≡ false) × IsCommandReason line of
-IsLineReason in_order line (LogReason.NoSession quoted) = (in_order ≡ true) × (session_of line ≡ None) × Quotes line quoted
-IsLineReason in_order line (LogReason.NoneLeft quoted) = (in_order ≡ true) × IsSome (session_of line) × Quotes line quoted
-IsLineReason in_order line _ = ⊥
-
 -- What a reason says of a text and a line of it, counted from 1
 abbrev pub IsLogReason : Text → ℕ → LogReason → Type 0
 IsLogReason text n LogReason.TooLong = (n ≡ 0) × (2147483648 < length text)
 IsLogReason text n LogReason.Empty = (n ≡ 1) × (text ≡ [])
 IsLogReason text n LogReason.NoNewline = (n ≡ suc (length (cut_after 10 text).pieces)) × ((cut_after 10 text).rest ≢ [])
-IsLogReason text n LogReason.NotLog = (n ≡ 1) × ((first : Text) × (more : List Text) × ((cut_after 10 text).pieces ≡ first ∷ more) × (is_text first (codes "log 1") ≡ false))
+IsLogReason text n (LogReason.First r) = (line : Text) × IsFirstLine text n line × IsFirstReason line r
 IsLogReason text n LogReason.NoOrder = EndsBefore text n × (begins_order (drop 1 (cut_after 10 text).pieces) ≡ false)
 IsLogReason text n LogReason.CommandsLeft = EndsBefore text n × (begins_order (drop 1 (cut_after 10 text).pieces) ≡ true)
-IsLogReason text n r = (between : List Text) × (line : Text) × IsLaterLine text n between line × IsLineReason (begins_order between) line r
+IsLogReason text n (LogReason.Line r) = (between : List Text) × (line : Text) × IsLaterLine text n between line × IsLineReason (begins_order between) line r

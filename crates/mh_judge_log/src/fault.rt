@@ -1,5 +1,7 @@
-//! What is wrong with the first bad entry of an order, and the text that says it. No contract speaks of the text: tests
-//! compare it.
+//! What is wrong with the first bad entry of an order, and the text that says it.
+ghost use Rattle.std.specs.Prelude.{Some};
+ghost use Rattle.mh_judge_log.specs.Texts.{order_fault_text};
+
 use mh_judge::entry_fault::EntryFault;
 use std::fmt;
 
@@ -13,6 +15,8 @@ pub enum OrderFault {
 }
 
 impl fmt::Display for OrderFault {
+    ghost output = { λ fault. Some (order_fault_text fault) };
+
     fn fmt<W: fmt::Write>(&self, f: &mut fmt::Formatter<W>) -> fmt::Result {
         match self {
             OrderFault::Late(earlier) => write!(f, "it had ended before entry {earlier} began"),

@@ -2,12 +2,12 @@
 //!
 //! Only the commands before the first late one are shown to the judge of sessions. So the first bad entry is the first
 //! of them that its session may not see, and else the late one.
-ghost use Rattle.std.specs.Prelude.{◌≢◌, ◌≤◌, [], length, take, IfOk, IfSome, IfNone, OnErr};
+ghost use Rattle.std.specs.Prelude.{◌≢◌, ◌≤◌, [], Bool, length, take, IfOk, IfSome, IfNone, OnErr};
 ghost use Rattle.mh_judge.specs.Following.{IsBadEntry};
-ghost use Rattle.mh_judge_sessions.specs.Faults.{IsUnseenAfter};
+ghost use Rattle.mh_judge_sessions.specs.Full.{lawful_by, wrong_by};
 ghost use Rattle.mh_judge_log.specs.{Auxiliary.IsOrderExplained, Judgements.verdict_of};
 ghost use Rattle.mh_judge_log.specs.{Orders.{IsLegalOrder, entries_of}, Times.KeepsTime};
-ghost use Rattle.mh_model.specs.{declared.config.Rules.Rules, HistoryTexts.IsJudged, Sessions.IsLegalForSessions};
+ghost use Rattle.mh_model.specs.{declared.config.Rules.Rules, HistoryTexts.IsJudged};
 
 use crate::fault::OrderFault;
 use crate::judgement::LogJudgement;
@@ -26,8 +26,8 @@ use std::alloc::Global;
 fn judge_times(order: &[Timed]) -> (usize, LogJudgement)
     ensures within { result.0 ≤ length order.now }
     ensures keeps { KeepsTime (take result.0 order.now) }
-    ensures judged { (rules : Rules) → IsLegalForSessions rules (entries_of (take result.0 order.now))
-        → IsJudged (IsLegalOrder rules) order.now (verdict_of result.1) × IsOrderExplained rules order.now result.1 }
+    ensures judged { (may_be_full : Bool) (rules : Rules) → lawful_by may_be_full rules (entries_of (take result.0 order.now))
+        → IsJudged (IsLegalOrder may_be_full rules) order.now (verdict_of result.1) × IsOrderExplained may_be_full rules order.now result.1 }
 {
     match first_late(order) {
         Some(place) => {
@@ -46,12 +46,17 @@ fn judge_times(order: &[Timed]) -> (usize, LogJudgement)
 }
 
 /// Follows the commands of an order, up to the first that its session may not see.
-fn follow_order(alloc: Global, rules: Rules, order: &[Timed]) -> Result<Option<BadEntry>, NoMemory>
-    ensures right { IfOk result (λ found. IfNone found (IsLegalForSessions rules (entries_of order.now))) }
-    ensures wrong { IfOk result (λ found. IfSome found (IsBadEntry (IsLegalForSessions rules) (IsUnseenAfter rules) (entries_of order.now))) }
+fn follow_order(
+    alloc: Global,
+    may_be_full: bool,
+    rules: Rules,
+    order: &[Timed],
+) -> Result<Option<BadEntry>, NoMemory>
+    ensures right { IfOk result (λ found. IfNone found (lawful_by may_be_full rules (entries_of order.now))) }
+    ensures wrong { IfOk result (λ found. IfSome found (IsBadEntry (lawful_by may_be_full rules) (wrong_by may_be_full rules) (entries_of order.now))) }
     ensures memory { OnErr result (order.now ≢ []) }
 {
-    let mut watch = Watch::open(alloc, Version::One, true, rules);
+    let mut watch = Watch::open(alloc, Version::One, may_be_full, rules);
     for timed in order {
         let reply = timed.entry.reply.copy()?;
         let entry = Entry {
@@ -69,15 +74,16 @@ fn follow_order(alloc: Global, rules: Rules, order: &[Timed]) -> Result<Option<B
 #[tactic(auto, using(crate::proofs::JudgedLemmas::some_order))]
 pub(crate) fn judge_order(
     alloc: Global,
+    may_be_full: bool,
     rules: Rules,
     order: &[Timed],
 ) -> Result<LogJudgement, NoMemory>
-    ensures verdict { IfOk result (λ judgement. IsJudged (IsLegalOrder rules) order.now (verdict_of judgement)) }
-    ensures explained { IfOk result (IsOrderExplained rules order.now) }
+    ensures verdict { IfOk result (λ judgement. IsJudged (IsLegalOrder may_be_full rules) order.now (verdict_of judgement)) }
+    ensures explained { IfOk result (IsOrderExplained may_be_full rules order.now) }
     ensures memory { OnErr result (order.now ≢ []) }
 {
     let (kept, judgement) = judge_times(order);
-    match follow_order(alloc, rules, &order[..kept])? {
+    match follow_order(alloc, may_be_full, rules, &order[..kept])? {
         Some(BadEntry { number, fault }) => Ok(Judgement::FirstBad {
             number,
             fault: OrderFault::Unseen(fault),

@@ -5,11 +5,13 @@
 ghost use Rattle.mh_judge_log.specs.Laws.{LegalLogsAreLinearizable, OrdersAreOfTheirLog};
 
 /// The order of a text is one of its log.
+#[tactic(auto, using(crate::proofs::LinearLemmas::of_their_log))]
 pub fn orders_are_of_their_log()
     ensures { OrdersAreOfTheirLog }
 {}
 
 /// A log that is judged legal has a linearization whose replies a correct collector may give.
+#[tactic(auto, using(crate::proofs::LawLemmas::linearizable))]
 pub fn legal_logs_are_linearizable()
     ensures { LegalLogsAreLinearizable }
 {

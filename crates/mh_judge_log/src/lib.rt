@@ -13,5 +13,6 @@ mod order;
 mod pending;
 pub mod reason;
 mod reasons;
+pub mod tally;
 pub mod texts;
 pub mod timed;

@@ -75,6 +75,7 @@ impl Pending {
     }
 
     /// Takes the first command of a session that is left.
+    #[tactic(auto, using(crate::proofs::PendingLemmas::none_taken, crate::proofs::PendingLemmas::taken_at))]
     pub fn take_first(&mut self, who: u8) -> Option<Timed>
         requires { who ≤ 8 }
         ensures some { IfSome result (λ timed. take_first who self.old ≡ Some (record { command = timed; others = self.new })) }

@@ -1,101 +1,120 @@
 //! Why a log with an order is refused at its first bad line. The reason is true of that line. It takes no memory.
-ghost use Rattle.std.specs.Prelude.{◌≡◌, None, true, false, IfSome, IfNone, IsSome};
+//!
+//! Of several reasons the first in a fixed order is given. An empty line or a comment comes first, then the bytes, then
+//! the words. How many they are comes before each of them, and the times before the command. What follows the times is
+//! an entry of a history, and its reason is that of one.
+ghost use Rattle.std.specs.Prelude.{◌≡◌, ◌≢◌, ◌∷◌, [], ◌<◌, None, true, false, codes, length, IfSome, IfNone};
 ghost use Rattle.mh_judge_log.specs.Logs.{ordered_reading, timed_of};
-ghost use Rattle.mh_judge_log.specs.Reasons.{IsAskedReason, IsCommandReason, IsEntryReason, IsLineReason, IsLogReason};
-ghost use Rattle.mh_model.specs.{declared.history.Version.TheVariants.One, Bytes.words};
-ghost use Rattle.mh_model.specs.{HistoryTexts.{entry_of, event_of}, Script.BadLine};
-ghost use Rattle.mh_reasons.specs.Reasons.{word_at};
+ghost use Rattle.mh_judge_log.specs.Reasons.{IsCommandReason, IsFirstReason, IsLineReason, IsLogReason, IsOrderReason, IsTimeReason};
+ghost use Rattle.mh_model.specs.{Bytes.{is_text, number, words}, Script.BadLine};
 
-use crate::reason::{CommandReason, LogReason};
-use crate::timed::{is_of_control, times_of};
+use crate::reason::{CommandReason, FirstReason, LogLineReason, LogReason};
+use crate::timed::is_of_control;
 use mh_history::event::session_of;
 use mh_history::record::RECORD_BYTES;
+use mh_model::history::Version;
 use mh_reasons::byte_fault::byte_fault;
+use mh_reasons::entry::entry_reason;
+use mh_reasons::line::{first_word, history_version};
+use mh_reasons::number_fault::number_fault;
 use mh_reasons::quoted::quote;
-use mh_text::forms::command_of;
 use mh_text::pieces::{Lines, Words};
-use mh_text::word::is_word;
+use mh_text::word::{is_word, number};
 
-/// The first of words, which is empty if there is none.
-fn first_word(mut words: Words<'_>) -> &[u8]
-    ensures { result.now ≡ word_at words.entry 0 }
-{
-    match words.next_word() {
-        Some(word) => word,
-        None => b"",
-    }
-}
-
-/// What is wrong with the words before `=`, if they aren't a command of a session.
-fn asked_reason(mut words: Words<'_>) -> Option<CommandReason>
-    ensures some { IfSome result (IsAskedReason words.entry) }
-    ensures none { IfNone result (IsSome (event_of One words.entry)) }
-{
-    let session = first_word(words.copy());
-    if session_of(session).is_none() {
-        return Some(CommandReason::NoSession(quote(session)));
-    }
-    words.next_word();
-    match command_of(words) {
-        Some(_) => None,
-        None => Some(CommandReason::NoCommand(quote(session))),
-    }
-}
-
-/// What is wrong with the words after the times, which are no entry.
-fn entry_reason(words: Words<'_>) -> CommandReason
-    requires { entry_of One words ≡ None }
-    ensures { IsEntryReason words.entry result }
-{
-    let Some((asked, answer)) = words.cut_at(b"=") else {
-        return CommandReason::NoReply;
-    };
-    match asked_reason(asked) {
-        Some(reason) => reason,
-        None => CommandReason::Reply(quote(first_word(answer))),
-    }
-}
-
-/// What is wrong with a line that is no command.
-#[tactic(auto, using(crate::proofs::ReasonLemmas::lacks_entry))]
-fn command_reason(line: &[u8]) -> CommandReason
-    requires { timed_of (words line.now) ≡ None }
-    ensures { IsCommandReason line.now result }
+/// What is wrong with a first line that isn't `log 1`.
+#[tactic(auto, using(mh_model::proofs::TextLemmas::text_is))]
+fn first_reason(line: &[u8]) -> FirstReason
+    requires { is_text line.now (codes "log 1") ≡ false }
+    ensures { IsFirstReason line.now result }
 {
     if let Some(fault) = byte_fault(line) {
-        return CommandReason::Bytes(fault);
+        return FirstReason::Bytes(fault);
     }
-    let Some((begin, end, rest)) = times_of(line) else {
-        return CommandReason::NoTimes;
+    let (first, words) = first_word(line);
+    if let Some(version) = history_version(first, words) {
+        return FirstReason::History(version);
+    }
+    if is_word(first, b"config") {
+        FirstReason::Script
+    } else {
+        FirstReason::NotLog
+    }
+}
+
+/// The words that are to be the times of a command, and those after them.
+fn timed_words(mut words: Words<'_>) -> Option<(&[u8], &[u8], Words<'_>)>
+    ensures split { IfSome result (λ found. words.entry ≡ found.0.now ∷ found.1.now ∷ found.2) }
+    ensures some { IfSome result (λ found. found.2 ≢ []) }
+    ensures none { IfNone result (length words.entry < 3) }
+{
+    let begin = words.next_word()?;
+    let end = words.next_word()?;
+    words.copy().next_word()?;
+    Some((begin, end, words))
+}
+
+/// What is wrong with a word that is no time.
+fn time_reason(word: &[u8]) -> CommandReason
+    requires { number word.now ≡ None }
+    ensures { IsTimeReason word.now result }
+{
+    match number_fault(word, u64::MAX) {
+        Some(fault) => CommandReason::Time(quote(word), fault),
+        None => unreachable!(),
+    }
+}
+
+/// What is wrong with the words of a line that is no command.
+fn command_reason(words: Words<'_>) -> CommandReason
+    requires { timed_of words ≡ None }
+    ensures { IsCommandReason words.entry result }
+{
+    let Some((first, second, called)) = timed_words(words) else {
+        return CommandReason::FewWords;
+    };
+    let Some(begin) = number(first) else {
+        return time_reason(first);
+    };
+    let Some(end) = number(second) else {
+        return time_reason(second);
     };
     if begin > end {
         return CommandReason::Backwards;
     }
-    if is_of_control(rest) {
+    if is_of_control(called.copy()) {
         return CommandReason::Control;
     }
-    entry_reason(Words::new(rest))
+    CommandReason::Entry(entry_reason(Version::One, called))
 }
 
 /// What is wrong with a line of an order, which takes no command.
-fn order_reason(line: &[u8]) -> LogReason
-    ensures { IsLineReason true line.now result }
+fn order_reason(line: &[u8]) -> LogLineReason
+    ensures { IsOrderReason line.now result }
 {
     match session_of(line) {
-        Some(_) => LogReason::NoneLeft(quote(line)),
-        None => LogReason::NoSession(quote(line)),
+        Some(_) => LogLineReason::NoneLeft(quote(line)),
+        None => LogLineReason::NoSession(quote(line)),
     }
 }
 
 /// What is wrong with a line before the order or in it.
-fn line_reason(in_order: bool, line: &[u8]) -> LogReason
+fn line_reason(in_order: bool, line: &[u8]) -> LogLineReason
     requires { in_order ≡ false → timed_of (words line.now) ≡ None }
     ensures { IsLineReason in_order line.now result }
 {
+    if line.is_empty() {
+        return LogLineReason::Blank;
+    }
+    if line[0] == b'#' {
+        return LogLineReason::Comment;
+    }
+    if let Some(fault) = byte_fault(line) {
+        return LogLineReason::Bytes(fault);
+    }
     if in_order {
         order_reason(line)
     } else {
-        LogReason::Command(command_reason(line))
+        LogLineReason::Command(command_reason(Words::new(line)))
     }
 }
 
@@ -115,12 +134,12 @@ pub(crate) fn log_reason(text: &[u8], line: u64) -> LogReason
         return LogReason::NoNewline;
     };
     if !is_word(first, b"log 1") {
-        return LogReason::NotLog;
+        return LogReason::First(first_reason(first));
     }
     let mut in_order = false;
     while let Some((number, bytes)) = lines.next_line() {
         if number == line {
-            return line_reason(in_order, bytes);
+            return LogReason::Line(line_reason(in_order, bytes));
         }
         in_order |= is_word(bytes, b"order 1");
     }

@@ -45,11 +45,11 @@ pub(crate) fn times_of(line: &[u8]) -> Option<(u64, u64, &[u8])>
     Some((number(begin)?, number(end)?, rest))
 }
 
-/// Whether the first word of a line is `*`, with which an entry of a control begins.
-pub(crate) fn is_of_control(line: &[u8]) -> bool
-    ensures { result ≡ begins_with_star (words line.now) }
+/// Whether the first of words is `*`, with which an entry of a control begins.
+pub(crate) fn is_of_control(mut words: Words<'_>) -> bool
+    ensures { result ≡ begins_with_star words.entry }
 {
-    match Words::new(line).next_word() {
+    match words.next_word() {
         Some(word) => is_word(word, b"*"),
         None => false,
     }
@@ -64,7 +64,7 @@ pub(crate) fn timed_in(alloc: Global, line: &[u8]) -> Result<Option<Timed>, NoMe
     let Some((begin, end, rest)) = times_of(line) else {
         return Ok(None);
     };
-    if begin > end || is_of_control(rest) {
+    if begin > end || is_of_control(Words::new(rest)) {
         return Ok(None);
     }
     match Entry::from_line(alloc, rest)? {

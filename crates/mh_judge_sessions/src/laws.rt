@@ -9,11 +9,13 @@ use mh_promise::promise::runs_keep_their_promise;
 use mh_run_laws::worlds::world_is_never_full;
 
 /// Of a configuration only the rules matter to what sessions see.
+#[tactic(auto, using(crate::proofs::RulesLemmas::rules_alone))]
 pub fn only_the_rules_matter()
     ensures { OnlyTheRulesMatter }
 {}
 
 /// A history that is legal for its sessions answers each as the ever-growing world does, but for a full heap.
+#[tactic(auto, using(crate::proofs::LegalLemmas::see_the_world))]
 pub fn sessions_see_the_world()
     ensures { SessionsSeeTheWorld }
 {
@@ -21,6 +23,7 @@ pub fn sessions_see_the_world()
 }
 
 /// A history with the machine's replies is legal for its sessions.
+#[tactic(auto, using(crate::proofs::LegalLemmas::legal_for_sessions))]
 pub fn legal_histories_are_legal_for_sessions()
     ensures { LegalHistoriesAreLegalForSessions }
 {
@@ -29,6 +32,7 @@ pub fn legal_histories_are_legal_for_sessions()
 }
 
 /// A text of either version has a verdict by what its sessions see.
+#[tactic(auto, using(crate::proofs::VerdictLemmas::seen_through))]
 pub fn texts_are_seen_through()
     ensures { TextsAreSeenThrough }
 {
@@ -36,6 +40,7 @@ pub fn texts_are_seen_through()
 }
 
 /// A text has a verdict also where no heap may be full. Where one may be, its verdict is the one that it has anyhow.
+#[tactic(auto, using(crate::proofs::StrictLemmas::full_judged))]
 pub fn full_heaps_are_judged()
     ensures { FullHeapsAreJudged }
 {

@@ -22,7 +22,7 @@ pub struct EntryCounts {
 }
 
 /// Whether a session is answered that the heap is full.
-pub(crate) fn is_full(entry: &Entry) -> bool
+pub fn is_full(entry: &Entry) -> bool
     ensures { result ≡ is_full entry.now }
 {
     matches!(entry.event, Event::Session(..))

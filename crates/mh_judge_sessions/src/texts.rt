@@ -114,6 +114,7 @@ fn rules_for(asked: Option<Rules>, text: &[u8]) -> Rules
 }
 
 /// That a text is refused with its first bad line, and why.
+#[tactic(auto, using(crate::proofs::ExplainedLemmas::refusal_explained))]
 fn refused_at(text: &[u8], line: u64) -> HistoryJudgement
     requires { entries_reading text.now ≡ BadLine line }
     ensures verdict { verdict_of result ≡ Refused line }
@@ -180,6 +181,7 @@ impl Task for Seeing {
 
     ghost does = { λ old text ended out new. IsVerdictLine found_verdict (IsSeenThroughBy old.may_be_full old.asked) (IsSeenTold old.may_be_full old.asked) BeginsWithEither text ended out };
 
+    #[tactic(auto, using(crate::proofs::ExplainedLemmas::sessions_long))]
     fn most_bytes() -> usize {
         RECORD_BYTES
     }

@@ -160,6 +160,7 @@ impl Model for Watch {
 
 impl Watch {
     /// One that has followed no entry, which takes no memory.
+    #[tactic(auto, using(crate::proofs::WatchLemmas::watched_none))]
     pub fn open(alloc: Global, version: Version, may_be_full: bool, rules: Rules) -> Watch
         ensures version { result.version ≡ version }
         ensures may_be_full { result.may_be_full ≡ may_be_full }

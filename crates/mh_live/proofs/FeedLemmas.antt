@@ -11,7 +11,7 @@ use Rattle.mh_script.specs.{declared.fault.WriteError.WriteError, Texts.IsWriteF
 use Rattle.mh_live.specs.declared.feed.Feed.{Feed}
 use Rattle.mh_live.specs.Feeding.{AnswersAll, AnswersFront, AnswersSome, AnswersWhole, BeginsAnswer, MayEndWith}
 use Rattle.mh_live.specs.Auxiliary.{HasAnswered, IsFed, MayBegin, TakesTurn, TurnsPartly, WritesPrefix, HeardRefusal, refusal_of}
-use Rattle.mh_live.specs.Heard.{AreHeard, Ended, IsHeard, IsLiveHeard, IsWhy, is_configured, unended_refusal}
+use Rattle.mh_live.specs.Heard.{AreHeard, Ended, IsHeard, IsLiveHeard, IsWhy, unended_refusal}
 use Rattle.mh_live.proofs.CutLemmas.{EndsNoLine, cut_line, cut_rest, front_line, front_of, line_cut}
 use Rattle.mh_live.proofs.TurnLemmas.{are_turns, heard_more, heard_why, one_more}
 
@@ -42,7 +42,7 @@ turns_partly old written written' error line answer live same is part = record {
 
 -- the turn of a line that was answered, with why it is refused
 pub takes_turn : (Told : Option LineRefusal → Type 0) (old new : Feed) (written written' : Option Text) (line answer : Text) (live : Live) (why : Option LineReason) → line ≡ old.begun.items → IsTurn old.number old.live line (record { text = answer; live = live })
-    → IsWhy (is_configured old.live) line why → Told (refusal_of old.number why) → new.live ≡ live → new.number ≡ suc old.number → new.begun.items ≡ [] → Appends written written' answer → TakesTurn Told old new written written'
+    → IsWhy old.live line why → Told (refusal_of old.number why) → new.live ≡ live → new.number ≡ suc old.number → new.begun.items ≡ [] → Appends written written' answer → TakesTurn Told old new written written'
 takes_turn Told old new written written' line answer live why same is is_why told after number begun wrote = record {
   turn = record { text = answer; live = live };
   is = rw same at is;

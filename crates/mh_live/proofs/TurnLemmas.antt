@@ -5,8 +5,7 @@ use Rattle.std.specs.Option.{option_to_list}
 use Rattle.mh_model.specs.{Bytes.Text, Live.{Live, Turn, IsTurn, AreTurns}}
 use Rattle.mh_reasons.specs.declared.reason.LineReason.{LineReason}
 use Rattle.mh_script.specs.declared.end.LineRefusal.{LineRefusal}
-use Rattle.mh_live.specs.Heard.{AreHeard, Ended, IsHeard, IsWhy, Turned, is_configured}
-use Rattle.mh_live.specs.Auxiliary.{HeardRefusal, refusal_of}
+use Rattle.mh_live.specs.{Heard.{AreHeard, Ended, IsHeard, IsWhy, Turned}, Auxiliary.{HeardRefusal, refusal_of}}
 use Rattle.mh_model.specs.Live as model
 
 -- what is heard of lines in turn are turns
@@ -34,7 +33,7 @@ one_more n live _ _ _ mid number line turn heard (Turned _ _ first lines head he
     (Turned n live first (lines ++ line ∷ []) head head_heard (refusals ++ option_to_list heard) (text ++ turn.text) turn.live is_first first_why more)
 
 -- why a line is refused, with its number
-pub heard_why : (n : ℕ) (live : Live) (line : Text) (why : Option LineReason) → IsWhy (is_configured live) line why → IsHeard n live line (refusal_of n why)
+pub heard_why : (n : ℕ) (live : Live) (line : Text) (why : Option LineReason) → IsWhy live line why → IsHeard n live line (refusal_of n why)
 heard_why n live line None right = right
 heard_why n live line (Some reason) is = (refl, (reason, refl, is.0, is.1))
 

@@ -4,7 +4,7 @@ use Rattle.std.specs.Option.{option_to_list}
 use Rattle.mh_model.specs.{Bytes.{Text, cut_after}, Live.{Live, Turn, Waits, Runs, Grows, IsTurn, unended_text}}
 use Rattle.mh_reasons.specs.declared.reason.LineReason.{LineReason}
 use Rattle.mh_reasons.specs.declared.reason.ScriptReason.TheVariants.{Line, NoNewline}
-use Rattle.mh_reasons.specs.Reasons.{IsLineReason, IsWrong}
+use Rattle.mh_reasons.specs.Reasons.{IsLineReason, IsWorldReason, IsWrong}
 use Rattle.mh_script.specs.declared.end.LineRefusal.{LineRefusal}
 
 -- whether the configuration has come; a world waits for none
@@ -13,16 +13,22 @@ is_configured Waits = false
 is_configured (Runs machine names count) = true
 is_configured (Grows world names count) = true
 
--- what is wrong with a line before or after the configuration; none if it isn't outside the grammar
-abbrev pub IsWhy : Bool → Text → Option LineReason → Type 0
-IsWhy configured line None = ¬ IsWrong configured line
-IsWhy configured line (Some reason) = IsWrong configured line × IsLineReason configured line reason
+-- what a reason says of a line before or after the configuration, or in a world
+abbrev pub IsReasonIn : Live → Text → LineReason → Type 0
+IsReasonIn Waits line reason = IsLineReason false line reason
+IsReasonIn (Runs machine names count) line reason = IsLineReason true line reason
+IsReasonIn (Grows world names count) line reason = IsWorldReason line reason
+
+-- what is wrong with a line; none if it isn't outside the grammar
+abbrev pub IsWhy : Live → Text → Option LineReason → Type 0
+IsWhy live line None = ¬ IsWrong (is_configured live) line
+IsWhy live line (Some reason) = IsWrong (is_configured live) line × IsReasonIn live line reason
 
 -- what is heard of line n: nothing if it isn't outside the grammar, and else its number and why
 abbrev pub IsHeard : ℕ → Live → Text → Option LineRefusal → Type 0
 IsHeard n live line None = ¬ IsWrong (is_configured live) line
 IsHeard n live line (Some refusal) =
-    (refusal.line ≡ n) × ((reason : LineReason) × (refusal.reason ≡ Line reason) × IsWrong (is_configured live) line × IsLineReason (is_configured live) line reason)
+    (refusal.line ≡ n) × ((reason : LineReason) × (refusal.reason ≡ Line reason) × IsWrong (is_configured live) line × IsReasonIn live line reason)
 
 -- what the lines from line n on may be answered one after another, what is heard of them, and what is then
 pub data AreHeard : ℕ → Live → List Text → List LineRefusal → Text → Live → Type 0 where

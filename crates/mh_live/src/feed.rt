@@ -80,6 +80,7 @@ impl Feed {
     }
 
     /// Answers the line that has begun, and whose end has come. Then it tells what is wrong with it, if anything is.
+    #[tactic(auto, using(crate::proofs::FeedLemmas::no_part, crate::proofs::FeedLemmas::part_written, crate::proofs::FeedLemmas::takes_turn, crate::proofs::FeedLemmas::turns_partly))]
     fn line<S: Scanner, W: Sink, L: Listener>(
         &mut self,
         scanner: &mut S,

@@ -2,7 +2,7 @@
 //!
 //! A line outside the grammar is refused with its number and changes nothing, and the next one is answered. Before the
 //! configuration each line that isn't blank is bad, unless it is one. A second configuration is a bad line. A world waits
-//! for no configuration, and each is a bad line there.
+//! for no configuration, and each is a bad line there, whose reason says so.
 //!
 //! An event after the last of all and one for which memory is refused are answered so, and change nothing, not even which
 //! names were seen. So is a control in a world. A line is answered with out of memory only if it is a configuration, a
@@ -10,7 +10,7 @@
 //! for memory at all is said by private contracts alone (`MayAskForMemory` of `mh_machine`).
 ghost use Rattle.std.specs.{Prelude.{◌≡◌, [], true, false, IfOk, OnOk}, String.string_bytes};
 ghost use Rattle.mh_model.specs.{Script.{is_blank, line_of}, Live.{Waits, IsTurn}};
-ghost use Rattle.mh_live.specs.{Answers.IsOfRules, AuxiliaryViews.{grows_of, runs_of}, Heard.{IsWhy, is_configured}};
+ghost use Rattle.mh_live.specs.{Answers.IsOfRules, AuxiliaryViews.{grows_of, runs_of}, Heard.IsWhy};
 
 use crate::answer::{answer, answer_in_world, refused, starved, uncollected};
 use crate::growing::GrowingWorld;
@@ -20,7 +20,7 @@ use mh_model::command::Event;
 use mh_model::config::{Config, Rules};
 use mh_model::limits::LEAST_QUANTUM;
 use mh_model::memory::NoMemory;
-use mh_reasons::line::line_reason;
+use mh_reasons::line::{line_reason, world_line_reason};
 use mh_reasons::reason::LineReason;
 use mh_scan::scan::Scanner;
 use mh_text::line::{Line, config_line, is_blank, line_of};
@@ -46,7 +46,7 @@ impl AttendedMachine {
     ) -> Result<Option<LineReason>, NoMemory>
         requires { string_bytes text.old ≡ [] }
         ensures turn { OnOk result (IsTurn number (runs_of self.old) line.now (record { text = string_bytes text.new; live = runs_of self.new })) }
-        ensures why { IfOk result (IsWhy true line.now) }
+        ensures why { IfOk result (IsWhy (runs_of self.old) line.now) }
     {
         match line_of(line) {
             Line::Blank => Ok(None),
@@ -87,13 +87,13 @@ impl AttendedWorld {
     ) -> Result<Option<LineReason>, NoMemory>
         requires { string_bytes text.old ≡ [] }
         ensures turn { OnOk result (IsTurn number (grows_of self.old) line.now (record { text = string_bytes text.new; live = grows_of self.new })) }
-        ensures why { IfOk result (IsWhy true line.now) }
+        ensures why { IfOk result (IsWhy (grows_of self.old) line.now) }
     {
         match line_of(line) {
             Line::Blank => Ok(None),
             Line::Wrong => {
                 refused(number, text)?;
-                Ok(Some(line_reason(true, line)))
+                Ok(Some(world_line_reason(line)))
             }
             Line::Asks(_) => {
                 uncollected(text)?;
@@ -170,7 +170,7 @@ impl Live {
         requires some { is_blank line.now ≡ false }
         requires empty { string_bytes text.old ≡ [] }
         ensures turn { OnOk result (IsTurn number self.old line.now (record { text = string_bytes text.new; live = self.new })) }
-        ensures why { IfOk result (IsWhy false line.now) }
+        ensures why { IfOk result (IsWhy Waits line.now) }
     {
         let Some(config) = config_line(line) else {
             refused(number, text)?;
@@ -192,6 +192,7 @@ impl Live {
     /// Answers a line with this number, given without its end. A line that is blank, or the configuration, is answered with
     /// nothing. If memory is refused for a line's event, it is answered so and nothing is changed. If it is refused for the
     /// text of an answer, the call fails, and the run is not to go on. Of a line outside the grammar it says what is wrong.
+    #[tactic(auto, using(crate::proofs::LineTurns::blank_line, crate::proofs::LineTurns::blank_right))]
     pub fn line<S: Scanner>(
         &mut self,
         number: u64,
@@ -201,7 +202,7 @@ impl Live {
     ) -> Result<Option<LineReason>, NoMemory>
         requires { string_bytes text.old ≡ [] }
         ensures turn { OnOk result (IsTurn number self.old line.now (record { text = string_bytes text.new; live = self.new })) }
-        ensures why { IfOk result (IsWhy (is_configured self.old) line.now) }
+        ensures why { IfOk result (IsWhy self.old line.now) }
     {
         if is_blank(line) {
             return Ok(None);

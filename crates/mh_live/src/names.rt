@@ -44,6 +44,7 @@ impl SessionNames {
     }
 
     /// The number of the session with this name: its place among those seen, or how many they are.
+    #[tactic(auto, using(mh_text::proofs::NamePlaces::number_found, mh_text::proofs::NamePlaces::number_missing))]
     pub fn number(&self, name: &[u8]) -> u8
         ensures { result ≡ session_number self.now name.now }
     {

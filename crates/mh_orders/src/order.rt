@@ -44,6 +44,14 @@ pub struct SessionsOptions {
     pub may_be_full: bool,
 }
 
+/// How a log of threads is judged.
+#[derive(Clone, Copy, Debug, PartialEq, Eq)]
+pub struct LogOptions {
+    pub rules: Rules,
+    /// Whether a heap may be full. Else each entry that is makes the order bad.
+    pub may_be_full: bool,
+}
+
 /// What the lines of `live` are answered by.
 #[derive(Clone, Copy, Debug, PartialEq, Eq)]
 pub enum LiveHeap {
@@ -90,8 +98,8 @@ pub enum Order {
     Check(Config),
     /// Check the history on standard input, of either version, by what its sessions see.
     CheckSessions(SessionsOptions),
-    /// Check the log of threads on standard input, and its order, under these rules.
-    CheckLog(Rules),
+    /// Check the log of threads on standard input, and its order.
+    CheckLog(LogOptions),
     /// Audit the history on standard input, of version 2.
     Audit,
     /// Write the history on standard input, of version 1, as version 2.

@@ -1,14 +1,23 @@
 -- What standard error gets of texts that quote an input.
-use Rattle.std.specs.Prelude.{Result, Ok, Err, IfOk, MatchResult}
-use Rattle.std.proofs.Common.{◌≡◌, [], ◌∷◌, ◌++◌, append_assoc}
+use Rattle.std.specs.Prelude.{Option, Some, None, IfSome, Result, Ok, Err, IfOk, MatchResult}
+use Rattle.std.proofs.Common.{◌≡◌, [], ◌∷◌, ◌++◌, append_assoc, subst, sym}
 use Rattle.mh_model.specs.Bytes.{Text}
-use Rattle.mh_program.specs.Complaints.{ErrorStream, Quoted, Says, SaysQuoted, Unquoted}
+use Rattle.mh_program.specs.Complaints.{ErrorStream, Quoted, Says, SaysFound, SaysQuoted, Unquoted}
 
 -- a text of this kind was told, or the other if there was no memory for it
 pub quotes : {T E : Type 0} (old new : ErrorStream) (Is : Text → Type 0) (other : Text) (bytes : T → Text) (text : Result T E) → IfOk text (λ t. Is (bytes t)) → MatchResult text (λ t. Says old new (bytes t)) (λ _. Says old new other)
     → SaysQuoted old new Is other
 quotes old new Is other bytes (Ok t) is told = Quoted (bytes t) is told
 quotes old new Is other bytes (Err e) is told = Unquoted told
+
+-- a text that shows what is to be said, if that is known, holds of it
+pub shown : (output : Option Text) (what : Text) (Is : Text → Type 0) → IfSome output (λ said. what ≡ said) → Is what → IfSome output Is
+shown None what Is same is = tt
+shown (Some said) what Is same is = subst Is same is
+
+-- what was found is reported
+pub found : {X : Type 0} (text_of : X → Text) (old new : ErrorStream) (o : Option X) (x : X) (text : Text) → o ≡ Some x → text ≡ text_of x → Says old new text → SaysFound text_of old new o
+found text_of old new o x text is same told = subst (SaysFound text_of old new) (sym is) (subst (Says old new) same told)
 
 -- Lines -----------------------------------------------------------------------------------------
 

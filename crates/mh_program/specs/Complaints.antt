@@ -1,21 +1,27 @@
 -- What the program tells on standard error.
-use Rattle.std.specs.Prelude.{◌≡◌, ℕ, ◌+◌, ◌<◌, Bool, true, false, Option, List, [], ◌∷◌, ◌++◌, Result, Ok, Err, codes, decimal, MatchOption}
-use Rattle.std.specs.List.{All}
+use Rattle.std.specs.Prelude.{◌≡◌, ℕ, ◌+◌, ◌-◌, ◌<◌, nat_lt, if◌then◌else◌, Bool, true, false, Option, List, [], ◌∷◌, ◌++◌, Result, Ok, Err, codes, decimal, MatchOption}
 use Rattle.mh_window_curve.specs.declared.{end.CurveEnd.CurveEnd, promises.LongPause.LongPause}
-use Rattle.mh_window_curve.specs.declared.promises.ShortStretch.{ShortStretch}
+use Rattle.mh_window_curve.specs.declared.promises.PromiseJudgement.{PromiseJudgement}
+use Rattle.mh_window_curve.specs.declared.{promises.ShortStretch.ShortStretch, promises.Untried.Untried}
+use Rattle.mh_orders.specs.declared.{promises.Share.Share, order.ConfigOption.ConfigOption}
+use Rattle.mh_orders.specs.declared.order.ConfigOption.TheVariants.{Pages, Quantum, Trigger, Every}
 use Rattle.mh_windows.specs.declared.floor.BrokenFloor.{BrokenFloor}
-use Rattle.mh_judge_log.specs.Judgements.{LogJudgement}
+use Rattle.mh_judge_log.specs.{declared.judgement.JudgedLog.JudgedLog, declared.tally.OrderCounts.OrderCounts}
+use Rattle.mh_judge_log.specs.{Judgements.LogJudgement, Texts.{log_reason_text, order_fault_text}}
 use Rattle.mh_judge.specs.{Judgements.HistoryJudgement, declared.judgement.Judgement.Judgement}
+use Rattle.mh_judge.specs.FaultTexts.{entry_fault_text}
 use Rattle.mh_judge_sessions.specs.declared.sessions_judgement.SessionsJudgement.{SessionsJudgement}
 use Rattle.mh_judge_sessions.specs.declared.tally.EntryCounts.{EntryCounts}
 use Rattle.mh_model.specs.Bytes.{Text, line_text}
-use Rattle.mh_command_line.specs.{declared.fault.LineFault.LineFault, Printable.{IsPrintable, IsSign}}
-use Rattle.mh_orders.specs.declared.order.ConfigOption.{ConfigOption, TheVariants.{Pages, Quantum, Trigger, Every}}
+use Rattle.mh_command_line.specs.{declared.fault.LineFault.LineFault, Printable.IsPrintable}
 use Rattle.mh_script.specs.declared.{end.End.End, end.End.TheVariants.{Done, Refused}, end.LineRefusal.LineRefusal}
 use Rattle.mh_script.specs.declared.fault.ScriptFault.{ScriptFault}
 use Rattle.mh_script.specs.declared.fault.ScriptFault.TheVariants.{Read, Write, NoMemory, HistoryFull}
 use Rattle.mh_size_text.specs.declared.end.SizeEnd.{SizeEnd}
 use Rattle.mh_text.specs.Devices.{Device, FailsAt, Takes}
+use Rattle.mh_reasons.specs.declared.history_reason.HistoryReason.{HistoryReason}
+use Rattle.mh_reasons.specs.Texts.{history_reason_text, script_reason_text}
+use Rattle.mh_window_pauses.specs.Reasons.{reason_text}
 use Rattle.mh_window_curve.specs.declared.promises.Broken as promises
 
 -- The stream -------------------------------------------------------------------------------------
@@ -66,9 +72,11 @@ entry_place number = codes "metroheap: line " ++ decimal (number + 1) ++ codes "
 abbrev pub order_place : ℕ → Text
 order_place number = codes "metroheap: entry " ++ decimal number ++ codes " of the order: "
 
--- a complaint on one line: where, and what, of which each byte can be printed
-abbrev pub IsComplaint : Text → Text → Type 0
-IsComplaint place text = (what : Text) × All IsSign what × (text ≡ place ++ line_text what)
+-- what is said of a history that is refused, of which the entries were judged by what sessions see. The whole lines of one that was cut off were judged
+abbrev pub seen_reason_text : ℕ → HistoryReason → Text
+seen_reason_text line HistoryReason.NoNewline =
+    history_reason_text HistoryReason.NoNewline ++ (if nat_lt 1 line then codes "; legal entries before it: " ++ decimal (line - 2) else [])
+seen_reason_text line reason = history_reason_text reason
 
 -- What it gets ------------------------------------------------------------------------------------
 
@@ -77,13 +85,17 @@ pub data SaysQuoted (old new : ErrorStream) (Is : Text → Type 0) (other : Text
   Quoted : (text : Text) → Is text → Says old new text → SaysQuoted old new Is other
   Unquoted : Says old new other → SaysQuoted old new Is other
 
+-- a complaint on one line: where, and what; or another if there is no memory for that
+abbrev pub SaysComplaint : ErrorStream → ErrorStream → (place what other : Text) → Type 0
+SaysComplaint old new place what other = SaysQuoted old new (λ text. text ≡ place ++ line_text what) (line_text other)
+
 -- of words that `clap` refuses: what it says of them
 abbrev pub SaysWords : ErrorStream → ErrorStream → Type 0
 SaysWords old new = SaysQuoted old new IsPrintable (line_text (codes "metroheap: bad command line"))
 
 -- of a script that is refused: where, and why
 abbrev pub SaysRefusal : ErrorStream → ErrorStream → LineRefusal → Type 0
-SaysRefusal old new refusal = SaysQuoted old new (IsComplaint (line_place refusal.line)) (line_text (codes "metroheap: the script is outside the grammar"))
+SaysRefusal old new refusal = SaysComplaint old new (line_place refusal.line) (script_reason_text refusal.reason) (codes "metroheap: the script is outside the grammar")
 
 -- of lines that are refused one by one: the same of each in turn
 pub data SaysRefusals : ErrorStream → List LineRefusal → ErrorStream → Type 0 where
@@ -104,8 +116,8 @@ SaysSized old new ended = SaysNothing old new
 -- of a history: nothing if it is legal, and else where and why it isn't
 abbrev pub SaysJudgement : ErrorStream → ErrorStream → HistoryJudgement → Type 0
 SaysJudgement old new (Judgement.Legal count) = SaysNothing old new
-SaysJudgement old new (Judgement.Refused line reason) = SaysQuoted old new (IsComplaint (line_place line)) (line_text (codes "metroheap: the history is outside the grammar"))
-SaysJudgement old new (Judgement.FirstBad number fault) = SaysQuoted old new (IsComplaint (entry_place number)) (line_text (codes "metroheap: an entry is bad"))
+SaysJudgement old new (Judgement.Refused line reason) = SaysComplaint old new (line_place line) (history_reason_text reason) (codes "metroheap: the history is outside the grammar")
+SaysJudgement old new (Judgement.FirstBad number fault) = SaysComplaint old new (entry_place number) (entry_fault_text fault) (codes "metroheap: an entry is bad")
 
 -- the line of what was looked through of a history
 abbrev pub tally_text : EntryCounts → Text
@@ -116,15 +128,31 @@ tally_text tally =
 abbrev pub SaysTally : ErrorStream → ErrorStream → Option EntryCounts → Type 0
 SaysTally old new found = MatchOption found (SaysNothing old new) (λ tally. Says old new (tally_text tally))
 
--- of a history that is judged by what its sessions see: the same as of any, and then what was looked through
-abbrev pub SaysSeen : ErrorStream → ErrorStream → SessionsJudgement → Type 0
-SaysSeen old new found = (between : ErrorStream) × SaysJudgement old between found.judgement × SaysTally between new found.tally
+-- of a history that is judged by what its sessions see: of one that was cut off also how many entries are legal, and then what was looked through
+abbrev pub SaysSeenJudgement : ErrorStream → ErrorStream → HistoryJudgement → Type 0
+SaysSeenJudgement old new (Judgement.Refused line reason) = SaysComplaint old new (line_place line) (seen_reason_text line reason) (codes "metroheap: the history is outside the grammar")
+SaysSeenJudgement old new judgement = SaysJudgement old new judgement
 
--- of a log: nothing if its order is legal, and else where and why it isn't
-abbrev pub SaysLog : ErrorStream → ErrorStream → LogJudgement → Type 0
-SaysLog old new (Judgement.Legal count) = SaysNothing old new
-SaysLog old new (Judgement.Refused line reason) = SaysQuoted old new (IsComplaint (line_place line)) (line_text (codes "metroheap: the log is outside the grammar"))
-SaysLog old new (Judgement.FirstBad number fault) = SaysQuoted old new (IsComplaint (order_place number)) (line_text (codes "metroheap: an entry is bad"))
+abbrev pub SaysSeen : ErrorStream → ErrorStream → SessionsJudgement → Type 0
+SaysSeen old new found = (between : ErrorStream) × SaysSeenJudgement old between found.judgement × SaysTally between new found.tally
+
+-- of a judgement on a log: nothing if its order is legal, and else where and why it isn't
+abbrev pub SaysLogJudgement : ErrorStream → ErrorStream → LogJudgement → Type 0
+SaysLogJudgement old new (Judgement.Legal count) = SaysNothing old new
+SaysLogJudgement old new (Judgement.Refused line reason) = SaysComplaint old new (line_place line) (log_reason_text reason) (codes "metroheap: the log is outside the grammar")
+SaysLogJudgement old new (Judgement.FirstBad number fault) = SaysComplaint old new (order_place number) (order_fault_text fault) (codes "metroheap: an entry is bad")
+
+-- the line of what was looked through of the order of a log
+abbrev pub counts_text : OrderCounts → Text
+counts_text counts = line_text (codes "metroheap: entries " ++ decimal counts.entries ++ codes " full " ++ decimal counts.full)
+
+-- what was looked through of it, if the text was read
+abbrev pub SaysCounts : ErrorStream → ErrorStream → Option OrderCounts → Type 0
+SaysCounts old new found = MatchOption found (SaysNothing old new) (λ counts. Says old new (counts_text counts))
+
+-- of a log: what is said of the judgement, and then what was looked through
+abbrev pub SaysLog : ErrorStream → ErrorStream → JudgedLog → Type 0
+SaysLog old new found = (between : ErrorStream) × SaysLogJudgement old between found.judgement × SaysCounts between new found.tally
 
 -- the lines of what was promised of all windows and isn't so: a window below its floor, a pause that is too long, and a stretch below its share
 abbrev pub floor_text : BrokenFloor → Text
@@ -143,17 +171,36 @@ stretch_text short =
 abbrev pub SaysFound : {X : Type 0} → (X → Text) → ErrorStream → ErrorStream → Option X → Type 0
 SaysFound text_of old new found = MatchOption found (SaysNothing old new) (λ x. Says old new (text_of x))
 
+-- the lines of what was promised and no trace of so few units breaks: it is too short for a window with a floor, for a pause, or for a stretch
+abbrev pub untried_floor_text : ℕ → Text
+untried_floor_text units = line_text (codes "metroheap: not tried: a trace of " ++ decimal units ++ codes " units has no window with a floor")
+
+abbrev pub untried_pause_text : ℕ → ℕ → Text
+untried_pause_text units most = line_text (codes "metroheap: not tried: a trace of " ++ decimal units ++ codes " units has no pause of more than " ++ decimal most)
+
+abbrev pub untried_stretch_text : ℕ → Share → Text
+untried_stretch_text units share = line_text (codes "metroheap: not tried: a trace of " ++ decimal units ++ codes " units has no stretch of " ++ decimal share.from ++ codes " and more")
+
 -- of promises: a line for each that is broken
 abbrev pub SaysBroken : ErrorStream → ErrorStream → promises.Broken → Type 0
 SaysBroken old new broken = (first second : ErrorStream) × SaysFound floor_text old first broken.floor × SaysFound pause_text first second broken.pause × SaysFound stretch_text second new broken.stretch
 
--- of a curve: what isn't so of what was promised if it was drawn, and else where and why it wasn't
+-- and a line for each that was not tried
+abbrev pub SaysUntried : ErrorStream → ErrorStream → Untried → Type 0
+SaysUntried old new untried =
+    (first second : ErrorStream) × SaysFound (λ _. untried_floor_text untried.units) old first untried.floor × SaysFound (untried_pause_text untried.units) first second untried.pause × SaysFound (untried_stretch_text untried.units) second new untried.stretch
+
+abbrev pub SaysPromises : ErrorStream → ErrorStream → PromiseJudgement → Type 0
+SaysPromises old new found = (between : ErrorStream) × SaysBroken old between found.broken × SaysUntried between new found.untried
+
+-- of a curve: what was found of what was promised if it was drawn, and then whether more events are left; else where and why it wasn't
 abbrev pub SaysCurve : ErrorStream → ErrorStream → CurveEnd → Type 0
-SaysCurve old new (CurveEnd.Drawn broken) = SaysBroken old new broken
+SaysCurve old new (CurveEnd.Drawn found) = SaysPromises old new found
+SaysCurve old new (CurveEnd.HistoryFull found) = (between : ErrorStream) × SaysPromises old between found × Says between new (line_text (fault_text HistoryFull))
 SaysCurve old new (CurveEnd.ScriptRefused refusal) = SaysRefusal old new refusal
-SaysCurve old new (CurveEnd.HistoryRefused line reason) = SaysQuoted old new (IsComplaint (line_place line)) (line_text (codes "metroheap: the history is outside the grammar"))
+SaysCurve old new (CurveEnd.HistoryRefused line reason) = SaysComplaint old new (line_place line) (history_reason_text reason) (codes "metroheap: the history is outside the grammar")
 SaysCurve old new CurveEnd.HistoryTooLong = Says old new (line_text (codes "metroheap: line 0: a history has fewer than 4611686018427387904 units"))
-SaysCurve old new (CurveEnd.LogRefused line reason) = SaysQuoted old new (IsComplaint (line_place line)) (line_text (codes "metroheap: the log is outside the grammar"))
+SaysCurve old new (CurveEnd.LogRefused line reason) = SaysComplaint old new (line_place line) (reason_text reason) (codes "metroheap: the log is outside the grammar")
 
 -- of what ends with more to tell, or with a fault
 abbrev pub SaysRun : {T : Type 0} → (ErrorStream → ErrorStream → T → Type 0) → ErrorStream → ErrorStream → Result T ScriptFault → Type 0

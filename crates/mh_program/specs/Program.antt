@@ -26,7 +26,7 @@ use Rattle.mh_tell_show.specs.Page.{ShowsReplies, page_text}
 use Rattle.mh_size_text.specs.{declared.end.SizeEnd.SizeEnd, Scripts.IsSizing}
 use Rattle.mh_size_counts.specs.Texts.{IsRoomText, IsTargetText}
 use Rattle.mh_tell_steps.specs.Steps.{TellsReplies, told_text}
-use Rattle.mh_program.specs.Status.{curve_status, done_status, end_status, judgement_status, line_status_of, sessions_status, size_status, status_of}
+use Rattle.mh_program.specs.Status.{curve_status, done_status, end_status, judgement_status, line_status_of, log_status, sessions_status, size_status, status_of}
 use Rattle.mh_program.specs.Complaints.{ErrorStream, SaysDone, SaysEnd, SaysJudgement, SaysLine, SaysLog, SaysRefusals, SaysRun, SaysSeen, SaysSized, SaysCurve}
 use Rattle.mh_model.specs.Live as live
 
@@ -111,7 +111,7 @@ Serves (Ok (Race workers)) source source' sink sink' errors errors' status = Obe
 Serves (Ok (Check config)) source source' sink sink' errors errors' status = Obeys (IsChecking config source source' sink sink') SaysJudgement judgement_status errors errors' status
 Serves (Ok (CheckSessions options)) source source' sink sink' errors errors' status =
     Obeys (IsSessionsJudging options.may_be_full options.rules source source' sink sink') SaysSeen sessions_status errors errors' status
-Serves (Ok (CheckLog rules)) source source' sink sink' errors errors' status = Obeys (IsLogJudging rules source source' sink sink') SaysLog judgement_status errors errors' status
+Serves (Ok (CheckLog options)) source source' sink sink' errors errors' status = Obeys (IsLogJudging options.may_be_full options.rules source source' sink sink') SaysLog log_status errors errors' status
 Serves (Ok Audit) source source' sink sink' errors errors' status = Obeys (IsAuditing source source' sink sink') SaysJudgement judgement_status errors errors' status
 Serves (Ok (Migrate config)) source source' sink sink' errors errors' status = Obeys (IsMigrating config source source' sink sink') SaysJudgement judgement_status errors errors' status
 Serves (Ok (Curve rules options)) source source' sink sink' errors errors' status = Obeys (IsDrawingRun options rules source source' sink sink') SaysCurve curve_status errors errors' status

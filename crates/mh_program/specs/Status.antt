@@ -1,8 +1,8 @@
 -- Exit statuses.
 use Rattle.std.specs.Prelude.{ℕ, if◌then◌else◌, Result, Ok, Err}
-use Rattle.mh_window_curve.specs.{declared.end.CurveEnd.CurveEnd, Promises.is_any_broken}
+use Rattle.mh_window_curve.specs.{declared.end.CurveEnd.CurveEnd, Promises.is_kept}
 use Rattle.mh_model.specs.declared.history.Verdict.{Verdict}
-use Rattle.mh_judge_log.specs.Judgements.{verdict_of}
+use Rattle.mh_judge_log.specs.{declared.judgement.JudgedLog.JudgedLog, Judgements.verdict_of}
 use Rattle.mh_judge.specs.declared.judgement.Judgement.{Judgement}
 use Rattle.mh_judge_sessions.specs.declared.sessions_judgement.SessionsJudgement.{SessionsJudgement}
 use Rattle.mh_script.specs.declared.{end.End.End, end.End.TheVariants.{Done, Refused}, fault.ScriptFault.ScriptFault}
@@ -36,9 +36,13 @@ judgement_status judgement = verdict_status (verdict_of judgement)
 abbrev pub sessions_status : SessionsJudgement → ℕ
 sessions_status found = judgement_status found.judgement
 
--- 0 for a curve whose trace keeps what was promised, 4 for one that doesn't, 1 for a text that was refused
+abbrev pub log_status : JudgedLog → ℕ
+log_status found = judgement_status found.judgement
+
+-- 0 for a curve whose trace keeps what was promised, 4 for one that doesn't, or is too short to tell, 3 if more events are left, 1 for a text that was refused
 abbrev pub curve_status : CurveEnd → ℕ
-curve_status (CurveEnd.Drawn broken) = if is_any_broken broken then 4 else 0
+curve_status (CurveEnd.Drawn found) = if is_kept found then 0 else 4
+curve_status (CurveEnd.HistoryFull found) = 3
 curve_status refused = 1
 
 -- 0 for a size that was written, 4 if it was written that there is none, 1 for a script that was refused

@@ -3,29 +3,31 @@
 //! Only a line that quotes its input takes memory. If there is none, a line comes that gives no reason; for words it
 //! is `metroheap: bad command line`. The lines of `ScriptFault` are named once, in `mh_script`. Those of `LineFault`
 //! stand here once more, since a contract names them, with the limits of a configuration.
-ghost use Rattle.std.specs.{Prelude.{◌≡◌, ◌+◌, IfOk, MatchResult}, String.string_bytes};
+ghost use Rattle.std.specs.Prelude.{◌≡◌, ◌+◌, ◌++◌, IfOk, IfSome, MatchResult, Some};
 ghost use Rattle.mh_model.specs.Bytes.{line_text};
 ghost use Rattle.mh_command_line.specs.Printable.{IsPrintable};
-ghost use Rattle.mh_program.specs.Complaints.{IsComplaint, More, None, Says, SaysBroken, SaysCurve, SaysEnd, SaysFound, SaysJudgement, SaysLine, SaysLog, SaysRefusal, SaysRefusals, SaysSeen, SaysSized, SaysTally, SaysWords, entry_place, fault_text, floor_text, line_place, order_place, outside_text, pause_text, stretch_text, tally_text};
+ghost use Rattle.mh_program.specs.Complaints.{More, None, Says, SaysCounts, SaysCurve, SaysEnd, SaysFound, SaysJudgement, SaysLine, SaysLog, SaysLogJudgement, SaysPromises, SaysRefusal, SaysRefusals, SaysSeen, SaysSeenJudgement, SaysSized, SaysTally, SaysWords, counts_text, entry_place, fault_text, floor_text, line_place, order_place, outside_text, pause_text, seen_reason_text, stretch_text, tally_text, untried_floor_text, untried_pause_text, untried_stretch_text};
 
 use crate::errors::Errors;
 use arrayvec::ArrayString;
 use itoa::Buffer;
 use mh_command_line::fault::LineFault;
-use mh_command_line::quoted::{printable, signs};
+use mh_command_line::quoted::printable;
 use mh_judge::judgement::{HistoryJudgement, Judgement};
-use mh_judge_log::judgement::LogJudgement;
+use mh_judge_log::judgement::{JudgedLog, LogJudgement};
+use mh_judge_log::tally::OrderCounts;
 use mh_judge_sessions::sessions_judgement::SessionsJudgement;
 use mh_judge_sessions::tally::EntryCounts;
 use mh_live::listener::Listener;
 use mh_orders::order::ConfigOption;
+use mh_orders::promises::{Round, Share};
 use mh_reasons::history_reason::HistoryReason;
 use mh_script::end::{End, LineRefusal};
 use mh_script::fault::{HISTORY_FULL, NO_MEMORY, READ_FAILED, ScriptFault, WRITE_FAILED};
 use mh_size_text::end::SizeEnd;
 use mh_text::sink::Sink;
 use mh_window_curve::end::CurveEnd;
-use mh_window_curve::promises::{Broken, LongPause, ShortStretch};
+use mh_window_curve::promises::{LongPause, PromiseJudgement, ShortStretch};
 use mh_windows::floor::BrokenFloor;
 use std::alloc::{AllocError, Global};
 use std::fmt;
@@ -63,10 +65,17 @@ fn outside_line(option: ConfigOption) -> &'static [u8]
     }
 }
 
-fn line_place(alloc: Global, line: u64) -> Result<String, AllocError>
-    ensures { IfOk result (λ place. string_bytes place ≡ line_place line) }
+/// The line that says what is wrong with a line of the input.
+fn line_complaint<T: fmt::Display>(
+    alloc: Global,
+    line: u64,
+    what: &T,
+) -> Result<Vec<u8>, AllocError>
+    ensures { IfOk result (λ text. IfSome (T.output what.now) (λ said. text.items ≡ line_place line ++ line_text said)) }
 {
-    format!(in alloc; "metroheap: line {line}: ")
+    let what = format!(in alloc; "{what}")?;
+    let text = format!(in alloc; "metroheap: line {line}: {what}\n")?;
+    Ok(text.into_bytes())
 }
 
 /// The line of an entry. Entries begin at line 2.
@@ -76,53 +85,17 @@ fn line_of_entry(number: u64) -> u128
     u128::from(number) + 1
 }
 
-fn entry_place(alloc: Global, number: u64) -> Result<String, AllocError>
-    ensures { IfOk result (λ place. string_bytes place ≡ entry_place number) }
-{
-    let line = line_of_entry(number);
-    let mut place = format!(in alloc; "metroheap: line {line}")?;
-    write!(place, ", entry {number}: ")?;
-    Ok(place)
-}
-
-fn order_place(alloc: Global, number: u64) -> Result<String, AllocError>
-    ensures { IfOk result (λ place. string_bytes place ≡ order_place number) }
-{
-    format!(in alloc; "metroheap: entry {number} of the order: ")
-}
-
-/// A line that says at which place what is wrong.
-fn complaint<T: fmt::Display>(alloc: Global, place: String, what: &T) -> Result<Vec<u8>, AllocError>
-    ensures { IfOk result (λ text. IsComplaint (string_bytes place) text.items) }
-{
-    let what = format!(in alloc; "{what}")?;
-    let what = signs(alloc, what.as_str())?;
-    let mut text = place.into_bytes();
-    text.extend_from_slice(what.as_slice())?;
-    text.push(b'\n')?;
-    Ok(text)
-}
-
-fn line_complaint<T: fmt::Display>(
-    alloc: Global,
-    line: u64,
-    what: &T,
-) -> Result<Vec<u8>, AllocError>
-    ensures { IfOk result (λ text. IsComplaint (line_place line) text.items) }
-{
-    let place = line_place(alloc, line)?;
-    complaint(alloc, place, what)
-}
-
 fn entry_complaint<T: fmt::Display>(
     alloc: Global,
     number: u64,
     what: &T,
 ) -> Result<Vec<u8>, AllocError>
-    ensures { IfOk result (λ text. IsComplaint (entry_place number) text.items) }
+    ensures { IfOk result (λ text. IfSome (T.output what.now) (λ said. text.items ≡ entry_place number ++ line_text said)) }
 {
-    let place = entry_place(alloc, number)?;
-    complaint(alloc, place, what)
+    let what = format!(in alloc; "{what}")?;
+    let line = line_of_entry(number);
+    let text = format!(in alloc; "metroheap: line {line}, entry {number}: {what}\n")?;
+    Ok(text.into_bytes())
 }
 
 fn order_complaint<T: fmt::Display>(
@@ -130,10 +103,11 @@ fn order_complaint<T: fmt::Display>(
     number: u64,
     what: &T,
 ) -> Result<Vec<u8>, AllocError>
-    ensures { IfOk result (λ text. IsComplaint (order_place number) text.items) }
+    ensures { IfOk result (λ text. IfSome (T.output what.now) (λ said. text.items ≡ order_place number ++ line_text said)) }
 {
-    let place = order_place(alloc, number)?;
-    complaint(alloc, place, what)
+    let what = format!(in alloc; "{what}")?;
+    let text = format!(in alloc; "metroheap: entry {number} of the order: {what}\n")?;
+    Ok(text.into_bytes())
 }
 
 /// The line of what was looked through of a history. It takes no memory.
@@ -159,7 +133,20 @@ fn tally_line(tally: EntryCounts) -> ArrayString<TALLY_BYTES>
     text
 }
 
-/// The line of a window that is below its floor. These three take no memory.
+/// The line of what was looked through of the order of a log. It takes no memory.
+fn counts_line(counts: OrderCounts) -> ArrayString<TALLY_BYTES>
+    ensures { result.bytes ≡ counts_text counts }
+{
+    let mut text = ArrayString::new();
+    text.push_str("metroheap: entries ");
+    text.push_str(Buffer::new().format(counts.entries));
+    text.push_str(" full ");
+    text.push_str(Buffer::new().format(counts.full));
+    text.push_str("\n");
+    text
+}
+
+/// The line of a window that is below its floor. The lines of promises take no memory.
 fn floor_line(floor: BrokenFloor) -> ArrayString<PROMISE_BYTES>
     ensures { result.bytes ≡ floor_text floor }
 {
@@ -210,6 +197,45 @@ fn stretch_line(short: ShortStretch) -> ArrayString<PROMISE_BYTES>
     text
 }
 
+/// The line of a floor that no window of so few units has.
+fn untried_floor_line(units: u64) -> ArrayString<PROMISE_BYTES>
+    ensures { result.bytes ≡ untried_floor_text units }
+{
+    let mut text = ArrayString::new();
+    text.push_str("metroheap: not tried: a trace of ");
+    text.push_str(Buffer::new().format(units));
+    text.push_str(" units has no window with a floor");
+    text.push_str("\n");
+    text
+}
+
+/// The line of a pause that so few units don't exceed.
+fn untried_pause_line(units: u64, most: u64) -> ArrayString<PROMISE_BYTES>
+    ensures { result.bytes ≡ untried_pause_text units most }
+{
+    let mut text = ArrayString::new();
+    text.push_str("metroheap: not tried: a trace of ");
+    text.push_str(Buffer::new().format(units));
+    text.push_str(" units has no pause of more than ");
+    text.push_str(Buffer::new().format(most));
+    text.push_str("\n");
+    text
+}
+
+/// The line of a stretch that so few units don't have.
+fn untried_stretch_line(units: u64, share: Share) -> ArrayString<PROMISE_BYTES>
+    ensures { result.bytes ≡ untried_stretch_text units share }
+{
+    let mut text = ArrayString::new();
+    text.push_str("metroheap: not tried: a trace of ");
+    text.push_str(Buffer::new().format(units));
+    text.push_str(" units has no stretch of ");
+    text.push_str(Buffer::new().format(share.from));
+    text.push_str(" and more");
+    text.push_str("\n");
+    text
+}
+
 fn words_text(alloc: Global, error: &clap::Error) -> Result<Vec<u8>, AllocError>
     ensures { IfOk result (λ text. IsPrintable text.items) }
 {
@@ -225,6 +251,8 @@ struct SeenRefusal<'a> {
 }
 
 impl fmt::Display for SeenRefusal<'_> {
+    ghost output = { λ refusal. Some (seen_reason_text refusal.line refusal.reason.now) };
+
     fn fmt<W: fmt::Write>(&self, f: &mut fmt::Formatter<W>) -> fmt::Result {
         write!(f, "{}", self.reason)?;
         if self.line > 1 && matches!(self.reason, HistoryReason::NoNewline) {
@@ -311,7 +339,7 @@ impl<E: Sink> Errors<E> {
     }
 
     fn say_seen_found(&mut self, judgement: &HistoryJudgement)
-        ensures { SaysJudgement self.old self.new judgement.now }
+        ensures { SaysSeenJudgement self.old self.new judgement.now }
     {
         match judgement {
             Judgement::Refused { line, reason } => {
@@ -342,9 +370,8 @@ impl<E: Sink> Errors<E> {
         self.say_tally(found.tally);
     }
 
-    /// Says what is wrong with a log, if anything is.
-    pub(crate) fn say_log(&mut self, judgement: &LogJudgement)
-        ensures { SaysLog self.old self.new judgement.now }
+    fn say_log_judgement(&mut self, judgement: &LogJudgement)
+        ensures { SaysLogJudgement self.old self.new judgement.now }
     {
         match judgement {
             Judgement::Legal(_) => {}
@@ -359,45 +386,105 @@ impl<E: Sink> Errors<E> {
         }
     }
 
+    fn say_counts(&mut self, counts: Option<OrderCounts>)
+        ensures { SaysCounts self.old self.new counts }
+    {
+        if let Some(counts) = counts {
+            self.say(counts_line(counts).as_str().as_bytes());
+        }
+    }
+
+    /// Says what is wrong with a log, if anything is, and what was looked through of its order.
+    pub(crate) fn say_log(&mut self, found: &JudgedLog)
+        ensures { SaysLog self.old self.new found.now }
+    {
+        self.say_log_judgement(&found.judgement);
+        self.say_counts(found.tally);
+    }
+
+    fn say_line_of(&mut self, line: ArrayString<PROMISE_BYTES>)
+        ensures { Says self.old self.new line.bytes }
+    {
+        self.say(line.as_str().as_bytes());
+    }
+
+    #[tactic(auto, using(crate::proofs::TellingLemmas::found))]
     fn say_floor(&mut self, found: Option<BrokenFloor>)
         ensures { SaysFound floor_text self.old self.new found }
     {
         if let Some(floor) = found {
-            self.say(floor_line(floor).as_str().as_bytes());
+            self.say_line_of(floor_line(floor));
         }
     }
 
+    #[tactic(auto, using(crate::proofs::TellingLemmas::found))]
     fn say_long(&mut self, found: Option<LongPause>)
         ensures { SaysFound pause_text self.old self.new found }
     {
         if let Some(long) = found {
-            self.say(pause_line(long).as_str().as_bytes());
+            self.say_line_of(pause_line(long));
         }
     }
 
+    #[tactic(auto, using(crate::proofs::TellingLemmas::found))]
     fn say_short(&mut self, found: Option<ShortStretch>)
         ensures { SaysFound stretch_text self.old self.new found }
     {
         if let Some(short) = found {
-            self.say(stretch_line(short).as_str().as_bytes());
+            self.say_line_of(stretch_line(short));
         }
     }
 
-    /// Says what of promises isn't so.
-    fn say_broken(&mut self, broken: &Broken)
-        ensures { SaysBroken self.old self.new broken.now }
+    #[tactic(auto, using(crate::proofs::TellingLemmas::found))]
+    fn say_untried_floor(&mut self, units: u64, untried: Option<Round>)
+        ensures { SaysFound (λ _. untried_floor_text units) self.old self.new untried }
     {
+        if let Some(_) = untried {
+            self.say_line_of(untried_floor_line(units));
+        }
+    }
+
+    #[tactic(auto, using(crate::proofs::TellingLemmas::found))]
+    fn say_untried_pause(&mut self, units: u64, untried: Option<u64>)
+        ensures { SaysFound (untried_pause_text units) self.old self.new untried }
+    {
+        if let Some(most) = untried {
+            self.say_line_of(untried_pause_line(units, most));
+        }
+    }
+
+    #[tactic(auto, using(crate::proofs::TellingLemmas::found))]
+    fn say_untried_stretch(&mut self, units: u64, untried: Option<Share>)
+        ensures { SaysFound (untried_stretch_text units) self.old self.new untried }
+    {
+        if let Some(share) = untried {
+            self.say_line_of(untried_stretch_line(units, share));
+        }
+    }
+
+    /// Says what was found of promises.
+    fn say_promises(&mut self, found: &PromiseJudgement)
+        ensures { SaysPromises self.old self.new found.now }
+    {
+        let PromiseJudgement { broken, untried } = found;
         self.say_floor(broken.floor);
         self.say_long(broken.pause);
         self.say_short(broken.stretch);
+        self.say_untried_floor(untried.units, untried.floor);
+        self.say_untried_pause(untried.units, untried.pause);
+        self.say_untried_stretch(untried.units, untried.stretch);
     }
 
-    /// Says what of promises isn't so of a curve, or why it wasn't drawn.
+    /// Says what was found of promises on a curve, or why it wasn't drawn.
     pub(crate) fn say_curve(&mut self, end: &CurveEnd)
         ensures { SaysCurve self.old self.new end.now }
     {
         match end {
-            CurveEnd::Drawn(broken) => self.say_broken(broken),
+            CurveEnd::Drawn(found) => self.say_promises(found),
+            CurveEnd::HistoryFull(found) => {
+                self.say_promises(found);
+                self.say(fault_line(ScriptFault::HistoryFull));
+            }
             CurveEnd::ScriptRefused(refusal) => self.say_refusal(refusal),
             CurveEnd::HistoryRefused { line, reason } => {
                 let text = line_complaint(self.alloc(), *line, reason);

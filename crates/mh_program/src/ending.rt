@@ -1,15 +1,15 @@
 //! How what the program does ends: what standard error gets of it, and its exit status. It is 0 if all went well, 1 for a
 //! text that is refused, 2 for words that are. It is 3 for a fault, and 4 for a history that isn't legal, a promise that
-//! isn't kept or a size that there is none of.
+//! isn't kept or wasn't tried, or a size that there is none of.
 ghost use Rattle.std.specs.Prelude.{◌≡◌, ℕ};
 ghost use Rattle.mh_program.specs.Complaints.{ErrorStream, SaysCurve, SaysDone, SaysEnd, SaysJudgement, SaysLog, SaysRun, SaysSeen, SaysSized};
-ghost use Rattle.mh_program.specs.Status.{curve_status, done_status, end_status, judgement_status, line_status_of, sessions_status, size_status, status_of, verdict_status};
+ghost use Rattle.mh_program.specs.Status.{curve_status, done_status, end_status, judgement_status, line_status_of, log_status, sessions_status, size_status, status_of, verdict_status};
 
 use crate::complaints::fault_line;
 use crate::errors::Errors;
 use mh_command_line::fault::LineFault;
 use mh_judge::judgement::HistoryJudgement;
-use mh_judge_log::judgement::LogJudgement;
+use mh_judge_log::judgement::JudgedLog;
 use mh_judge_sessions::sessions_judgement::SessionsJudgement;
 use mh_model::history::Verdict;
 use mh_script::end::End;
@@ -86,17 +86,17 @@ impl Ending for HistoryJudgement {
     }
 }
 
-impl Ending for LogJudgement {
+impl Ending for JudgedLog {
     ghost says = { SaysLog };
 
-    ghost status_by = { judgement_status };
+    ghost status_by = { log_status };
 
     fn say<E: Sink>(&self, errors: &mut Errors<E>) {
         errors.say_log(self);
     }
 
     fn status(&self) -> u8 {
-        verdict_status(self.verdict())
+        verdict_status(self.judgement.verdict())
     }
 }
 
@@ -125,8 +125,9 @@ impl Ending for CurveEnd {
 
     fn status(&self) -> u8 {
         match self {
-            CurveEnd::Drawn(broken) if broken.any() => 4,
-            CurveEnd::Drawn(_) => 0,
+            CurveEnd::Drawn(found) if found.is_kept() => 0,
+            CurveEnd::Drawn(_) => 4,
+            CurveEnd::HistoryFull(_) => 3,
             _ => 1,
         }
     }

@@ -2,6 +2,7 @@
 //! nothing is left to speak of. Tests show what it does.
 use crate::errors::Errors;
 use crate::program::program;
+use mh_command_line::arguments::SystemArguments;
 use mh_command_line::words::words;
 use mh_scan::gate::Open;
 use mh_size_text::progress::{Progress, Silent};
@@ -23,7 +24,7 @@ pub fn launch_told<
     E: Write + Drop,
     P: Progress,
 >(rt: &R, alloc: Global, env: &V, input: I, output: O, errors: E, progress: &mut P) -> u8 {
-    let words = words(env, alloc);
+    let words = words(&SystemArguments(env), alloc);
     let mut source = StdSource::new(input);
     let mut sink = StdSink::new(output);
     let mut errors = Errors::new(alloc, StdSink::new(errors));

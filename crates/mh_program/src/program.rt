@@ -1,10 +1,9 @@
 //! What the program does on its words, its text and its three devices, for each of the 12 subcommands and for the
 //! version.
 //!
-//! The contract has what is read and written, the lines on standard error, and the exit status. Of a reason it has
-//! the line and the entry before it, and that it is one line which can be printed. Tests compare the text. Standard
-//! error gets nothing more once a write to it failed. Without an order nothing is read, and standard output gets
-//! nothing.
+//! The contract has what is read and written, the lines on standard error, and the exit status. Of words that `clap`
+//! refuses it has only which bytes are written; tests compare that text. Standard error gets nothing more once a write
+//! to it failed. Without an order nothing is read, and standard output gets nothing.
 ghost use Rattle.std.specs.{Prelude.{◌≡◌, ◌<◌, ◌≤◌, Result, Err, IfOk, MatchResult, map}, String.string_bytes};
 ghost use Rattle.mh_command_line.specs.declared.fault.LineFault.{LineFault};
 ghost use Rattle.mh_command_line.specs.Orders.{HasFewWorkers, HasFirstRules, OrdersBy};
@@ -23,7 +22,9 @@ use mh_judge_sessions::texts::check_sessions;
 use mh_live::feed::run_live;
 use mh_live::live::Live;
 use mh_model::config::Rules;
-use mh_orders::order::{LiveHeap, LiveOptions, Order, RunForm, RunOptions, SessionsOptions};
+use mh_orders::order::{
+    LiveHeap, LiveOptions, LogOptions, Order, RunForm, RunOptions, SessionsOptions,
+};
 use mh_race_text::race::race_script;
 use mh_scan::crew_scan::CrewGate;
 use mh_script::end::End;
@@ -143,7 +144,10 @@ pub fn serve<
                 errors,
             )
         }
-        Ok(Order::CheckLog(rules)) => report(&check_log(alloc, rules, source, sink), errors),
+        Ok(Order::CheckLog(options)) => {
+            let LogOptions { rules, may_be_full } = options;
+            report(&check_log(alloc, may_be_full, rules, source, sink), errors)
+        }
         Ok(Order::Audit) => report(&audit_script(alloc, source, sink), errors),
         Ok(Order::Migrate(config)) => report(&migrate_script(alloc, config, source, sink), errors),
         Ok(Order::Curve(rules, options)) => {

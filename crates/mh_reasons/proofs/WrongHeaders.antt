@@ -10,7 +10,7 @@ use Rattle.mh_model.specs.HistoryTexts.{rules_of, header_by, header_of}
 use Rattle.mh_model.proofs.TextLemmas.{text_is}
 use Rattle.mh_reasons.specs.declared.history_reason.HistoryLineReason.{HistoryLineReason}
 use Rattle.mh_reasons.specs.{declared.reason.LineReason.LineReason, Operands.{are_numbers_below, fit, IsOperandReason}}
-use Rattle.mh_reasons.specs.Reasons.{word_at}
+use Rattle.mh_reasons.specs.Reasons.{is_log, word_at}
 use Rattle.mh_reasons.specs.HistoryReasons.{headed, IsGivenReason, IsFirstWordsReason, IsFirstLineReason, IsFirstWrong}
 use Rattle.mh_reasons.specs.declared.verb.Verb.{Verb}
 use Rattle.mh_reasons.proofs.{SoundWords.{is_sound, are_sound, unsound_numbers}, SoundLines.fault_unsound}
@@ -37,8 +37,11 @@ other_second line is same = two_versions (sym (ap (λ l. word_at (words l) 1) sa
 other_first : (line : Text) → word_at (words line) 0 ≡ codes "config" → line ≡ codes "history 1" → ⊥
 other_first line is same = two_words (sym (ap (λ l. word_at (words l) 0) same) ∙ is)
 
+log_first : (line : Text) → is_log (words line) ≡ true → line ≡ codes "history 1" → ⊥
+log_first line is same = false≢true (sym (ap (λ l. is_log (words l)) same) ∙ is)
+
 first_one : (line : Text) (r : HistoryLineReason) → IsFirstWordsReason One line r → is_text line (codes "history 1") ≡ false
-first_one line r is = grind (arith, not_one, other_second, other_first)
+first_one line r is = grind (arith, not_one, other_second, other_first, log_first)
 
 -- The second version -----------------------------------------------------------------------------
 
@@ -93,6 +96,8 @@ first_two : (line : Text) (r : HistoryLineReason) → IsFirstWordsReason Two lin
 first_two line (HistoryLineReason.OtherVersion One) is = header_second (words line) (rw is.1.1 refl)
 first_two line (HistoryLineReason.OtherVersion Two) is = absurd (is.0 refl)
 first_two line HistoryLineReason.Script is = header_first (words line) (rw is refl)
+first_two line HistoryLineReason.Log is =
+    header_first (words line) (rw (text_is (word_at (words line) 0) (codes "log") (and_parts (is_text (word_at (words line) 0) (codes "log")) (is_text (word_at (words line) 1) (codes "1")) is).0) refl)
 first_two line (HistoryLineReason.NotHistory of) is = header_other (words line) is.1
 first_two line r is = ap header_of is.1.1 ∙ given_none is.1.0 r is.1.2
 

@@ -8,13 +8,14 @@ use Rattle.mh_model.specs.Bytes.{Text, words, is_text, is_numeral, is_name, numb
 use Rattle.mh_model.specs.{Configs.{configured_by, configured}, Limits.is_configuration}
 use Rattle.mh_model.specs.Forms.{Row, within, are_below, u64, row_form, formed, command_rows, command_of, control_rows, control_of}
 use Rattle.mh_model.specs.Script.{Wrong, calls, asks, line_words, config_of, config_words}
+use Rattle.mh_model.proofs.TextLemmas.{text_is}
 use Rattle.mh_text.specs.Auxiliary.{said}
 use Rattle.mh_text.proofs.{RowLemmas.{formed_said, below_other}, WordLemmas.length_numbers}
 use Rattle.mh_reasons.specs.{declared.number_fault.NumberFault.NumberFault, declared.quoted.Quoted.Quoted}
 use Rattle.mh_reasons.specs.{declared.reason.ConfigNumber.ConfigNumber, declared.reason.LineReason.LineReason}
 use Rattle.mh_reasons.specs.{Numbers.{is_digits, HasNumberFault}, Verbs.{bounds_of, Usage, usage_of}}
 use Rattle.mh_reasons.specs.Operands.{are_numbers_below, fit, HasOperandFault}
-use Rattle.mh_reasons.specs.Reasons.{is_alphanumeric, is_in_limits, IsFirstOutside, word_at, IsWordsReason}
+use Rattle.mh_reasons.specs.Reasons.{is_alphanumeric, is_in_limits, IsFirstOutside, word_at, is_log, IsWordsReason}
 
 -- Numbers ----------------------------------------------------------------------------------------
 
@@ -171,6 +172,9 @@ history_wrong words is = grind arith
 other_wrong : (words : List Text) → is_text (word_at words 0) (codes "config") ≡ false → config_words words ≡ None
 other_wrong words is = grind arith
 
+log_wrong : (words : List Text) → is_log words ≡ true → config_words words ≡ None
+log_wrong words is = other_wrong words (rw (text_is (word_at words 0) (codes "log") (and_parts (is_text (word_at words 0) (codes "log")) (is_text (word_at words 1) (codes "1")) is).0) refl)
+
 pub unnamed_wrong : (words : List Text) → is_text (word_at words 0) (codes "*") ≡ false → is_name (word_at words 0) ≡ false → line_words words ≡ Wrong
 unnamed_wrong words session unnamed = grind arith
 
@@ -189,6 +193,11 @@ alone_tail version words session named one = grind arith
 unknown_tail : (version : Version) (words : List Text) → is_text (word_at words 0) (codes "*") ≡ false → is_name (word_at words 0) ≡ true → 1 < length words → bounds_of command_rows (word_at words 1) ≡ None → IsTailWrong version words
 unknown_tail version words session named some none = search (arith, formed_unknown)
 
+second_tail : (version : Version) (words : List Text) → word_at words 0 ≡ codes "config" → bounds_of command_rows (word_at words 1) ≡ None → IsTailWrong version words
+second_tail version [] is none = tt
+second_tail version (name ∷ []) is none = alone_tail version (name ∷ []) (rw is refl) (rw is refl) refl
+second_tail version (name ∷ word ∷ given) is none = unknown_tail version (name ∷ word ∷ given) (rw is refl) (rw is refl) (omega arith) none
+
 star_alone_tail : (version : Version) (words : List Text) → is_text (word_at words 0) (codes "*") ≡ true → length words ≡ 1 → IsTailWrong version words
 star_alone_tail version words star one = grind arith
 
@@ -198,8 +207,9 @@ unknown_control_tail version words star some none = search (arith, formed_unknow
 pub words_tail : (version : Version) (words : List Text) (r : LineReason) → IsWordsReason version true words r → IsTailWrong version words
 words_tail version words (LineReason.LongName quoted) is = unnamed_tail version words is.0.1 (long_name (word_at words 0) is.1)
 words_tail version words (LineReason.BadName quoted) is = unnamed_tail version words is.0.1 (other_name (word_at words 0) is.2)
-words_tail version words (LineReason.NoCommand quoted) is = alone_tail version words is.0.0.1 is.0.1 is.1
-words_tail version words (LineReason.UnknownCommand quoted) is = unknown_tail version words is.0.0.1 is.0.1 is.1 is.2
+words_tail version words LineReason.SecondConfig is = second_tail version words is.1 is.2
+words_tail version words (LineReason.NoCommand quoted) is = alone_tail version words is.0.0.0.1 is.0.0.1 is.1
+words_tail version words (LineReason.UnknownCommand quoted) is = unknown_tail version words is.0.0.0.1 is.0.0.1 is.1 is.2
 words_tail version words LineReason.NoControl is = star_alone_tail version words is.0.1 is.1
 words_tail version words (LineReason.UnknownControl quoted) is = unknown_control_tail version words is.0.1 is.1 is.2
 words_tail version words (LineReason.Operands verb) is = usage_tail version words is.0 is.1 (miscounted is.0.bounds is.0.given is.2.1)
@@ -208,6 +218,7 @@ words_tail version words other is = grind (arith, true_false)
 
 words_config : (words : List Text) (r : LineReason) → IsWordsReason Two false words r → config_words words ≡ None
 words_config words (LineReason.History of) is = history_wrong words is.1.0
+words_config words LineReason.Log is = log_wrong words is.1
 words_config words (LineReason.NotConfig quoted) is = other_wrong words is.1
 words_config words (LineReason.Limit which) is = limit_wrong words is.1.0 which is.1.1 is.1.2
 words_config words (LineReason.Operands verb) is = usage_config words is.0 is.1 (miscounted is.0.bounds is.0.given is.2.1)

@@ -8,7 +8,7 @@ use Rattle.mh_reasons.specs.declared.history_reason.HistoryReason.{HistoryReason
 use Rattle.mh_reasons.specs.declared.history_reason.HistoryLineReason.{HistoryLineReason}
 use Rattle.mh_reasons.specs.{declared.reason.ConfigNumber.ConfigNumber, Quotes.Quotes, Lines.{HasByteFault, IsPlain}}
 use Rattle.mh_reasons.specs.{Verbs.verb_bounds, Operands.{fit, IsOperandReason}}
-use Rattle.mh_reasons.specs.Reasons.{word_at, IsHistory, is_in_limits, are_in_limits_before, IsWordsReason}
+use Rattle.mh_reasons.specs.Reasons.{word_at, IsHistory, is_log, is_in_limits, are_in_limits_before, IsWordsReason}
 use Rattle.mh_reasons.specs.declared.verb.Verb.{Verb}
 
 -- First lines ------------------------------------------------------------------------------------
@@ -54,15 +54,17 @@ abbrev pub IsOtherFirst : Version → Text → Type 0
 IsOtherFirst One line = is_text line (codes "history 1") ≡ false
 IsOtherFirst Two line = (given : List Text) → words line ≢ headed given
 
--- a first line that begins neither the configuration of a script nor a history of another version
+-- a first line that begins neither the configuration of a script nor a history of another version nor a log of threads
 pub record IsUnknownFirst (version : Version) (words : List Text) : Type 0 where
   pub script : word_at words 0 ≢ codes "config"
   pub other : (of : Version) → of ≢ version → ¬ IsHistory words of
+  pub log : is_log words ≡ false
 
 -- What a reason says of the words of a first line
 abbrev pub IsFirstWordsReason : Version → Text → HistoryLineReason → Type 0
 IsFirstWordsReason version line (HistoryLineReason.OtherVersion of) = (of ≢ version) × IsHistory (words line) of
 IsFirstWordsReason version line HistoryLineReason.Script = word_at (words line) 0 ≡ codes "config"
+IsFirstWordsReason version line HistoryLineReason.Log = is_log (words line) ≡ true
 IsFirstWordsReason version line (HistoryLineReason.NotHistory of) = (of ≡ version) × IsOtherFirst version line × IsUnknownFirst version (words line)
 IsFirstWordsReason version line r = (version ≡ Two) × ((given : List Text) × (words line ≡ headed given) × IsGivenReason given r)
 

@@ -6,4 +6,5 @@ pub mod Lines
 pub mod Operands
 pub mod Reasons
 pub mod HistoryReasons
+pub mod Texts
 pub mod Laws

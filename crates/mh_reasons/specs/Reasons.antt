@@ -61,6 +61,10 @@ word_at words i = slice_index_or words i []
 abbrev pub IsHistory : List Text → Version → Type 0
 IsHistory words version = (word_at words 0 ≡ codes "history") × (word_at words 1 ≡ version_word version)
 
+-- the words of the first line of a log of threads, as far as they tell it
+abbrev pub is_log : List Text → Bool
+is_log words = is_text (word_at words 0) (codes "log") && is_text (word_at words 1) (codes "1")
+
 -- words that begin with a verb of the grammar: which, what it takes, and what it is given
 abbrev pub IsUsage : Version → Bool → List Text → (Usage → Type 0) → Type 0
 IsUsage version configured words P = (usage : Usage) × (usage_of version configured words ≡ Some usage) × P usage
@@ -72,20 +76,29 @@ AreOfSession configured words = (configured ≡ true) × (is_text (word_at words
 abbrev pub IsNamedWord : Bool → List Text → Type 0
 IsNamedWord configured words = AreOfSession configured words × (is_name (word_at words 0) ≡ true)
 
+-- those under another name than `config`, and those that no word of a command follows under that name
+abbrev pub IsOtherNamedWord : Bool → List Text → Type 0
+IsOtherNamedWord configured words = IsNamedWord configured words × (is_text (word_at words 0) (codes "config") ≡ false)
+
+abbrev pub IsSecondConfig : Bool → List Text → Type 0
+IsSecondConfig configured words = (configured ≡ true) × (word_at words 0 ≡ codes "config") × (bounds_of command_rows (word_at words 1) ≡ None)
+
 abbrev pub IsOfControl : Bool → List Text → Type 0
 IsOfControl configured words = (configured ≡ true) × (is_text (word_at words 0) (codes "*") ≡ true)
 
 -- What a reason says of the words of a line, before and after the configuration, with the controls of a version
 abbrev pub IsWordsReason : Version → Bool → List Text → LineReason → Type 0
 IsWordsReason version configured words (LineReason.History of) = (configured ≡ false) × IsHistory words of
+IsWordsReason version configured words LineReason.Log = (configured ≡ false) × (is_log words ≡ true)
 IsWordsReason version configured words (LineReason.NotConfig quoted) =
-    (configured ≡ false) × (is_text (word_at words 0) (codes "config") ≡ false) × ((of : Version) → ¬ IsHistory words of) × Quotes (word_at words 0) quoted
+    (configured ≡ false) × (is_text (word_at words 0) (codes "config") ≡ false) × ((of : Version) → ¬ IsHistory words of) × (is_log words ≡ false) × Quotes (word_at words 0) quoted
 IsWordsReason version configured words (LineReason.Limit which) = (configured ≡ false) × IsUsage version configured words (λ usage. IsFirstOutside which usage.given)
+IsWordsReason version configured words LineReason.SecondConfig = IsSecondConfig configured words
 IsWordsReason version configured words (LineReason.LongName quoted) = AreOfSession configured words × (16 < length (word_at words 0)) × Quotes (word_at words 0) quoted
 IsWordsReason version configured words (LineReason.BadName quoted) = AreOfSession configured words × (length (word_at words 0) ≤ 16) × (is_alphanumeric (word_at words 0) ≡ false) × Quotes (word_at words 0) quoted
-IsWordsReason version configured words (LineReason.NoCommand quoted) = IsNamedWord configured words × (length words ≡ 1) × Quotes (word_at words 0) quoted
+IsWordsReason version configured words (LineReason.NoCommand quoted) = IsOtherNamedWord configured words × (length words ≡ 1) × Quotes (word_at words 0) quoted
 IsWordsReason version configured words (LineReason.UnknownCommand quoted) =
-    IsNamedWord configured words × (1 < length words) × (bounds_of command_rows (word_at words 1) ≡ None) × Quotes (word_at words 1) quoted
+    IsOtherNamedWord configured words × (1 < length words) × (bounds_of command_rows (word_at words 1) ≡ None) × Quotes (word_at words 1) quoted
 IsWordsReason version configured words LineReason.NoControl = IsOfControl configured words × (length words ≡ 1)
 IsWordsReason version configured words (LineReason.UnknownControl quoted) =
     IsOfControl configured words × (1 < length words) × (bounds_of (control_rows version) (word_at words 1) ≡ None) × Quotes (word_at words 1) quoted
@@ -99,6 +112,12 @@ abbrev pub IsLineReason : Bool → Text → LineReason → Type 0
 IsLineReason configured line LineReason.Comment = HasPair line 32 35
 IsLineReason configured line (LineReason.Bytes fault) = (¬ HasPair line 32 35) × HasByteFault line fault
 IsLineReason configured line reason = (¬ HasPair line 32 35) × IsPlain line × IsWordsReason Two configured (words line) reason
+
+-- What a reason says of a line in a world: a world has no configuration, so each that comes has a reason of its own
+abbrev pub IsWorldReason : Text → LineReason → Type 0
+IsWorldReason line LineReason.WorldConfig = IsLineReason true line LineReason.SecondConfig
+IsWorldReason line LineReason.SecondConfig = ⊥
+IsWorldReason line reason = IsLineReason true line reason
 
 -- Scripts ----------------------------------------------------------------------------------------
 

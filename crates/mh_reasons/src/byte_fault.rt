@@ -1,8 +1,10 @@
 //! Bytes of a line that are out of place. The leftmost byte that is no printable ASCII comes first. Spaces follow: one
 //! at the start, one at the end, or one after another, in this order.
-ghost use Rattle.std.specs.Prelude.{◌≡◌, ◌↔◌, IsTrue, IfSome, IfNone, find};
+ghost use Rattle.std.specs.Prelude.{◌≡◌, ◌↔◌, IsTrue, IfSome, IfNone, find, Some};
 ghost use Rattle.mh_reasons.specs.Lines.{HasByteFault, HasNoneBefore, HasPair, HasSpace, IsPlain, IsSpaced, is_stray};
+ghost use Rattle.mh_reasons.specs.Texts.{byte_fault_text};
 
+use crate::hexadecimal::Hexadecimal;
 use std::fmt;
 
 /// Bytes of a line that are out of place.
@@ -76,11 +78,13 @@ fn space_fault(line: &[u8]) -> Option<SpacePlace>
 }
 
 impl fmt::Display for ByteFault {
+    ghost output = { λ it. Some (byte_fault_text it) };
+
     fn fmt<W: fmt::Write>(&self, f: &mut fmt::Formatter<W>) -> fmt::Result {
         match self {
             ByteFault::Stray(b'\r') => f.write_str("a carriage return"),
             ByteFault::Stray(b'\t') => f.write_str("a tab"),
-            ByteFault::Stray(byte) => write!(f, "a byte \\x{byte:02x}"),
+            ByteFault::Stray(byte) => write!(f, "a byte \\x{}", Hexadecimal(*byte)),
             ByteFault::Space(SpacePlace::Start) => f.write_str("a space at the start"),
             ByteFault::Space(SpacePlace::End) => f.write_str("a space at the end"),
             ByteFault::Space(SpacePlace::Twice) => f.write_str("two spaces in a row"),

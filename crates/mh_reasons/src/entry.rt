@@ -16,6 +16,7 @@ use mh_text::pieces::Words;
 use mh_text::word::is_word;
 
 /// What is wrong with a line after the first of a history of this version.
+#[tactic(auto, using(crate::proofs::EntryLemmas::of_one, crate::proofs::EntryLemmas::of_two))]
 pub fn entry_line_reason(version: Version, line: &[u8]) -> HistoryLineReason
     requires { IsEntryWrong version line.now }
     ensures { IsEntryReason version line.now result }
@@ -48,7 +49,8 @@ fn measured_reason(words: Words<'_>) -> HistoryLineReason
     }
 }
 
-fn entry_reason(version: Version, words: Words<'_>) -> HistoryLineReason
+/// What is wrong with the words of an entry of this version, without its units.
+pub fn entry_reason(version: Version, words: Words<'_>) -> HistoryLineReason
     requires { entry_of version words ≡ None }
     ensures { IsEntryWordsReason version words.entry result }
 {

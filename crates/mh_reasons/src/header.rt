@@ -1,4 +1,5 @@
-//! What is wrong with the first line of a history. A script or a history of the other version is named as such.
+//! What is wrong with the first line of a history. A script, a history of the other version or a log of
+//! threads is named as such.
 ghost use Rattle.std.specs.Prelude.{◌≡◌, ◌≢◌, None, ◌∷◌, List, ℕ, IfSome, IfNone, option_map, option_and_then, false};
 ghost use Rattle.mh_model.specs.{Bytes.numbers, HistoryTexts.header_by};
 ghost use Rattle.mh_reasons.specs.Operands.{fit};
@@ -6,7 +7,7 @@ ghost use Rattle.mh_reasons.specs.HistoryReasons.{IsFirstWrong, IsFirstLineReaso
 
 use crate::byte_fault::byte_fault;
 use crate::history_reason::HistoryLineReason;
-use crate::line::{first_word, history_version, outside_limit};
+use crate::line::{begins_log, first_word, history_version, outside_limit};
 use crate::operands::operands_fault;
 use crate::verb::Verb;
 use mh_model::history::Version;
@@ -14,6 +15,7 @@ use mh_text::pieces::Words;
 use mh_text::word::{is_word, number, numbers};
 
 /// What is wrong with the first line of a history of this version.
+#[tactic(auto, using(mh_model::proofs::TextLemmas::text_is))]
 pub fn first_line_reason(version: Version, line: &[u8]) -> HistoryLineReason
     requires { IsFirstWrong version line.now }
     ensures { IsFirstLineReason version line.now result }
@@ -29,6 +31,9 @@ pub fn first_line_reason(version: Version, line: &[u8]) -> HistoryLineReason
     }
     if is_word(first, b"config") {
         return HistoryLineReason::Script;
+    }
+    if begins_log(first, words.copy()) {
+        return HistoryLineReason::Log;
     }
     match version {
         Version::One => HistoryLineReason::NotHistory(Version::One),

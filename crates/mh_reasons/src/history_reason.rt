@@ -1,4 +1,7 @@
-//! The reasons of histories: data, of which contracts speak, and their texts, which are tested.
+//! The reasons of histories: data, of which contracts speak, and their texts.
+ghost use Rattle.std.specs.Prelude.{Some};
+ghost use Rattle.mh_reasons.specs.Texts.{history_line_text, history_reason_text};
+
 use crate::byte_fault::ByteFault;
 use crate::quoted::Quoted;
 use crate::reason::{ConfigNumber, LineReason};
@@ -27,6 +30,8 @@ pub enum HistoryLineReason {
     OtherVersion(Version),
     /// The configuration of a script.
     Script,
+    /// The first line of a log of threads.
+    Log,
     /// Another first line than a history of this version has.
     NotHistory(Version),
     /// A number of rules that isn't 1 or 2.
@@ -50,6 +55,8 @@ pub enum HistoryLineReason {
 }
 
 impl fmt::Display for HistoryReason {
+    ghost output = { λ it. Some (history_reason_text it) };
+
     fn fmt<W: fmt::Write>(&self, f: &mut fmt::Formatter<W>) -> fmt::Result {
         match self {
             HistoryReason::TooLong(Version::One) => f.write_str(
@@ -66,6 +73,8 @@ impl fmt::Display for HistoryReason {
 }
 
 impl fmt::Display for HistoryLineReason {
+    ghost output = { λ it. Some (history_line_text it) };
+
     fn fmt<W: fmt::Write>(&self, f: &mut fmt::Formatter<W>) -> fmt::Result {
         match self {
             HistoryLineReason::Blank => f.write_str("a history has no empty lines"),
@@ -78,6 +87,7 @@ impl fmt::Display for HistoryLineReason {
                 "a history of version 2: audit reads it",
             ),
             HistoryLineReason::Script => f.write_str("a script: run reads it"),
+            HistoryLineReason::Log => f.write_str("a log: check --log reads it"),
             HistoryLineReason::NotHistory(Version::One) => f.write_str(
                 "the first line is history 1",
             ),

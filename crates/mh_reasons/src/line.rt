@@ -4,7 +4,7 @@ ghost use Rattle.std.specs.Prelude.{◌≡◌, ℕ, Some, None, true, false, ◌
 ghost use Rattle.mh_model.specs.{Limits.is_configuration, Bytes.{words, is_text, is_name}};
 ghost use Rattle.mh_model.specs.{Script.{config_words, line_words, Wrong}, declared.history.Version.TheVariants.Two};
 ghost use Rattle.mh_model.specs.declared.history.Version.{Version};
-ghost use Rattle.mh_reasons.specs.Reasons.{IsWrong, IsLineReason, IsWordsReason, IsHistory, is_in_limits, are_in_limits_before};
+ghost use Rattle.mh_reasons.specs.Reasons.{IsWrong, IsLineReason, IsWordsReason, IsWorldReason, IsHistory, is_log, is_in_limits, are_in_limits_before};
 
 use crate::byte_fault::{byte_fault, has_pair};
 use crate::event::{command_reason, control_reason};
@@ -18,6 +18,7 @@ use mh_text::pieces::Words;
 use mh_text::word::{is_name, is_word, numbers};
 
 /// What is wrong with a line that isn't blank, before or after the configuration.
+#[tactic(auto, using(crate::proofs::WordLemmas::event_words, crate::proofs::WordLemmas::of_event, crate::proofs::WordLemmas::of_config))]
 pub fn line_reason(configured: bool, line: &[u8]) -> LineReason
     requires { IsWrong configured line.now }
     ensures { IsLineReason configured line.now result }
@@ -33,6 +34,17 @@ pub fn line_reason(configured: bool, line: &[u8]) -> LineReason
         event_reason(first, words)
     } else {
         config_reason(first, words)
+    }
+}
+
+/// What is wrong with a line in a world, which has no configuration.
+pub fn world_line_reason(line: &[u8]) -> LineReason
+    requires { IsWrong true line.now }
+    ensures { IsWorldReason line.now result }
+{
+    match line_reason(true, line) {
+        LineReason::SecondConfig => LineReason::WorldConfig,
+        reason => reason,
     }
 }
 
@@ -54,6 +66,9 @@ fn config_reason(first: &[u8], words: Words<'_>) -> LineReason
     if let Some(version) = history_version(first, words.copy()) {
         return LineReason::History(version);
     }
+    if begins_log(first, words.copy()) {
+        return LineReason::Log;
+    }
     if !is_word(first, b"config") {
         return LineReason::NotConfig(quote(first));
     }
@@ -67,6 +82,7 @@ fn config_reason(first: &[u8], words: Words<'_>) -> LineReason
 }
 
 /// The version of a history that begins with these words.
+#[tactic(auto, using(mh_model::proofs::TextLemmas::text_is))]
 pub fn history_version(first: &[u8], mut words: Words<'_>) -> Option<Version>
     ensures some { IfSome result (IsHistory (first.now ∷ words.entry)) }
     ensures none { IfNone result ((version : Version) → ¬ IsHistory (first.now ∷ words.entry) version) }
@@ -81,6 +97,16 @@ pub fn history_version(first: &[u8], mut words: Words<'_>) -> Option<Version>
         Some(Version::Two)
     } else {
         None
+    }
+}
+
+/// Whether a log of threads begins with these words.
+pub fn begins_log(first: &[u8], mut words: Words<'_>) -> bool
+    ensures { result ≡ is_log (first.now ∷ words.entry) }
+{
+    match words.next_word() {
+        Some(version) => is_word(first, b"log") && is_word(version, b"1"),
+        None => false,
     }
 }
 

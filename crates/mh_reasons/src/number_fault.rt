@@ -1,7 +1,7 @@
 //! What is wrong with a word that is to be a number, and at most some other. A word without a fault is such a number.
-ghost use Rattle.std.specs.{Prelude.{suc, IfSome, IfNone, ◌≡◌}, List.list_all};
+ghost use Rattle.std.specs.{Prelude.{suc, IfSome, IfNone, ◌≡◌, Some}, List.list_all};
 ghost use Rattle.mh_model.specs.Bytes.{is_digit};
-ghost use Rattle.mh_reasons.specs.Numbers.{HasNumberFault, IsNumberBelow};
+ghost use Rattle.mh_reasons.specs.{Numbers.{HasNumberFault, IsNumberBelow}, Texts.number_fault_text};
 
 use mh_text::word::number;
 use std::fmt;
@@ -39,6 +39,8 @@ fn are_digits(word: &[u8]) -> bool
 }
 
 impl fmt::Display for NumberFault {
+    ghost output = { λ it. Some (number_fault_text it) };
+
     fn fmt<W: fmt::Write>(&self, f: &mut fmt::Formatter<W>) -> fmt::Result {
         match self {
             NumberFault::NotDigits => f.write_str("a number is written in digits"),

@@ -1,7 +1,9 @@
 //! Words as messages quote them: at most 80 bytes, in an array of a fixed size. So a reason takes no memory, and
 //! outlives the text.
-ghost use Rattle.mh_reasons.specs.Quotes.{Quotes};
+ghost use Rattle.mh_reasons.specs.{Quotes.Quotes, Texts.{escaped_text, quoted_text}};
+ghost use Rattle.std.specs.Prelude.{Some};
 
+use crate::hexadecimal::Hexadecimal;
 use arrayvec::ArrayVec;
 use std::fmt;
 
@@ -17,6 +19,7 @@ pub struct Quoted {
 }
 
 /// Quotes a word.
+#[tactic(auto, using(crate::proofs::QuoteLemmas::whole))]
 pub fn quote(word: &[u8]) -> Quoted
     ensures { Quotes word.now result }
 {
@@ -37,6 +40,8 @@ pub fn quote(word: &[u8]) -> Quoted
 }
 
 impl fmt::Display for Quoted {
+    ghost output = { λ it. Some (quoted_text it) };
+
     /// What can't be printed is escaped, and so are quotes and backslashes.
     fn fmt<W: fmt::Write>(&self, f: &mut fmt::Formatter<W>) -> fmt::Result {
         f.write_str("\"")?;
@@ -52,12 +57,14 @@ impl fmt::Display for Quoted {
 struct Escaped(u8);
 
 impl fmt::Display for Escaped {
+    ghost output = { λ it. Some (escaped_text it.0) };
+
     fn fmt<W: fmt::Write>(&self, f: &mut fmt::Formatter<W>) -> fmt::Result {
         match self.0 {
             b'"' => f.write_str("\\\""),
             b'\\' => f.write_str("\\\\"),
             b' '..=b'~' => f.write_char(char::from(self.0)),
-            byte => write!(f, "\\x{byte:02x}"),
+            byte => write!(f, "\\x{}", Hexadecimal(byte)),
         }
     }
 }

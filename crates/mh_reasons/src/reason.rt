@@ -1,4 +1,7 @@
-//! The reasons of scripts: data, of which contracts speak, and their texts, which are tested.
+//! The reasons of scripts: data, of which contracts speak, and their texts.
+ghost use Rattle.std.specs.Prelude.{Some};
+ghost use Rattle.mh_reasons.specs.Texts.{limits_text, line_reason_text, script_reason_text};
+
 use crate::byte_fault::ByteFault;
 use crate::number_fault::NumberFault;
 use crate::quoted::Quoted;
@@ -26,10 +29,16 @@ pub enum LineReason {
     Bytes(ByteFault),
     /// A history stands where the configuration is to be.
     History(Version),
+    /// A log of threads stands there.
+    Log,
     /// Another word than `config` stands there.
     NotConfig(Quoted),
     /// A number of the configuration is outside its limits.
     Limit(ConfigNumber),
+    /// Another configuration, after the first.
+    SecondConfig,
+    /// A configuration in a world.
+    WorldConfig,
     /// A name of too many bytes.
     LongName(Quoted),
     /// A name with other bytes than letters and digits, or with no letter first.
@@ -56,6 +65,8 @@ pub enum ConfigNumber {
 }
 
 impl fmt::Display for ScriptReason {
+    ghost output = { λ it. Some (script_reason_text it) };
+
     fn fmt<W: fmt::Write>(&self, f: &mut fmt::Formatter<W>) -> fmt::Result {
         match self {
             ScriptReason::TooLong => f.write_str("a script has at most 67108864 bytes"),
@@ -69,16 +80,21 @@ impl fmt::Display for ScriptReason {
 }
 
 impl fmt::Display for LineReason {
+    ghost output = { λ it. Some (line_reason_text it) };
+
     fn fmt<W: fmt::Write>(&self, f: &mut fmt::Formatter<W>) -> fmt::Result {
         match self {
             LineReason::Comment => f.write_str("a comment is a line of its own"),
             LineReason::Bytes(fault) => write!(f, "{fault}"),
             LineReason::History(Version::One) => f.write_str("a history: check reads it"),
             LineReason::History(Version::Two) => f.write_str("a history: audit reads it"),
+            LineReason::Log => f.write_str("a log: check --log reads it"),
             LineReason::NotConfig(word) => {
                 write!(f, "{word}: config PAGES QUANTUM TRIGGER EVERY comes first")
             }
             LineReason::Limit(number) => write!(f, "{number}"),
+            LineReason::SecondConfig => f.write_str("a configuration comes once"),
+            LineReason::WorldConfig => f.write_str("a world has no configuration"),
             LineReason::LongName(name) => write!(f, "{name}: a name has at most 16 bytes"),
             LineReason::BadName(name) => {
                 write!(
@@ -97,6 +113,8 @@ impl fmt::Display for LineReason {
 }
 
 impl fmt::Display for ConfigNumber {
+    ghost output = { λ it. Some (limits_text it) };
+
     fn fmt<W: fmt::Write>(&self, f: &mut fmt::Formatter<W>) -> fmt::Result {
         f.write_str(match self {
             ConfigNumber::Pages => "PAGES is 1 to 4096",

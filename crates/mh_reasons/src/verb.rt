@@ -1,8 +1,8 @@
 //! Words that numbers follow, and the greatest that each number may be, by the tables of the model. The forms of
 //! `mh_text` say only that words are none of them, and a reason says what their verb wants.
-ghost use Rattle.std.specs.Prelude.{codes};
+ghost use Rattle.std.specs.Prelude.{◌≡◌, codes, Some};
 ghost use Rattle.mh_model.specs.Forms.{command_rows, control_rows};
-ghost use Rattle.mh_reasons.specs.Verbs.{NamesRow};
+ghost use Rattle.mh_reasons.specs.{Texts.{operands_text, takes_text}, Verbs.{NamesRow, verb_text}};
 
 use mh_model::history::Version;
 use mh_text::word::is_word;
@@ -120,7 +120,9 @@ impl Verb {
         }
     }
 
-    fn word(self) -> &'static str {
+    fn word(self) -> &'static str
+        ensures { result.now ≡ verb_text self }
+    {
         match self {
             Verb::Config => "config",
             Verb::New => "new",
@@ -147,7 +149,9 @@ impl Verb {
     }
 
     /// The names of its numbers.
-    fn operands(self) -> &'static str {
+    fn operands(self) -> &'static str
+        ensures { result.now ≡ operands_text self }
+    {
         match self {
             Verb::Config => "PAGES QUANTUM TRIGGER EVERY",
             Verb::New => "D R N",
@@ -172,6 +176,8 @@ impl Verb {
 
 /// What a verb takes.
 impl fmt::Display for Verb {
+    ghost output = { λ it. Some (takes_text it) };
+
     fn fmt<W: fmt::Write>(&self, f: &mut fmt::Formatter<W>) -> fmt::Result {
         let verb = self.word();
         let operands = self.operands();

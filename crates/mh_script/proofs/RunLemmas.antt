@@ -104,7 +104,10 @@ module _ (text_of : Text → Config → List Event → Text) (rules : Rules) (Le
   leaves-long : (text rest : Text) → reading text ≡ BadLine 0 → (ended : Result End ScriptFault) → LeavesForm Leaves rules text ended → LeavesForm Leaves rules (text ++ rest) ended
   leaves-long text rest bad (Ok Done) (script, is, leaves) = let other : BadLine 0 ≡ Means script = sym bad ∙ is in absurd cc
   leaves-long text rest bad (Ok (Refused refusal)) is = tt
-  leaves-long text rest bad (Err fault) is = tt
+  leaves-long text rest bad (Err HistoryFull) (script, is, leaves) = let other : BadLine 0 ≡ Means script = sym bad ∙ is in absurd cc
+  leaves-long text rest bad (Err NoMemory) is = tt
+  leaves-long text rest bad (Err Read) is = tt
+  leaves-long text rest bad (Err Write) is = tt
 
   pub transcript-long : (text rest : Text) (ended : Result End ScriptFault) (out : Text) → 67108864 < length text → IsTranscript text_of rules Leaves text ended out → IsTranscript text_of rules Leaves (text ++ rest) ended out
   transcript-long text rest ended out long is =

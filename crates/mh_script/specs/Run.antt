@@ -52,9 +52,14 @@ IsOutput written text ended out = (out ≡ written text) × MayEndSo text ended
 abbrev pub IsRun : (Text → Text) → (source source' sink sink' : Device) → Result End ScriptFault → Type 0
 IsRun written = IsDone (IsOutput written) 67108864
 
--- what a run that was done has made of its transcript
+-- what the run of a script's first 1,000,000 events has made of its transcript
+abbrev pub HasRun : (Config → List Event → Type 0) → Rules → Text → Type 0
+HasRun Leaves rules text = (script : Meaning) × (reading text ≡ Means script) × Leaves (with_rules rules script.config) (take most_entries script.events)
+
+-- what a run has made of its transcript that did all its events, or as many as a history has
 abbrev pub LeavesForm : (Config → List Event → Type 0) → Rules → Text → Result End ScriptFault → Type 0
-LeavesForm Leaves rules text (Ok Done) = (script : Meaning) × (reading text ≡ Means script) × Leaves (with_rules rules script.config) (take most_entries script.events)
+LeavesForm Leaves rules text (Ok Done) = HasRun Leaves rules text
+LeavesForm Leaves rules text (Err HistoryFull) = HasRun Leaves rules text
 LeavesForm Leaves rules text ended = Unit {0}
 
 -- a transcript of this text is to be written if its run ended so, and this is made of its form

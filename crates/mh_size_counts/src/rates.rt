@@ -44,6 +44,7 @@ fn class_at(number: usize) -> Class
 }
 
 /// The most pages that so many intervals of so many units open in a row.
+#[tactic(auto, using(crate::proofs::RateLemmas::sum_more, crate::proofs::RateLemmas::sum_all))]
 pub(crate) fn opens_at_rate(rates: &Rates, units: u64, quanta: u64) -> u64
     requires units { units ≤ 1003660 }
     requires quanta { quanta ≤ 1000000 }

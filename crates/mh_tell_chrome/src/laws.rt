@@ -12,6 +12,7 @@ pub fn slices_nest()
 {}
 
 /// Quanta and commands are as long together as a report says.
+#[tactic(auto, using(crate::proofs::TotalLemmas::total_is_quanta, crate::proofs::TotalLemmas::total_is_session))]
 pub fn slices_add_up()
     ensures { SlicesAddUp }
 {}

@@ -81,6 +81,7 @@ fn push_cycle_end(text: &mut String, now: u128, is_open: bool) -> Result<(), NoM
 }
 
 /// Adds the ends of a phase and its cycle, where they are open.
+#[tactic(auto, using(crate::proofs::TextLemmas::both_written))]
 fn push_cycle_ends(text: &mut String, now: u128, slices: Slices) -> Result<(), NoMemory>
     ensures { OnOk result (string_bytes text.new ≡ string_bytes text.old ++ next_texts (cycle_ends now slices)) }
 {
@@ -260,6 +261,7 @@ fn push_reopened(text: &mut String, now: u128, phase: Option<Phase>) -> Result<(
 }
 
 /// Adds the slice of a quantum as it begins, and in it that of the phase that is open.
+#[tactic(auto, using(crate::proofs::TextLemmas::before_written))]
 fn push_quantum_begins(
     text: &mut String,
     number: u64,

@@ -112,6 +112,7 @@ fn push_rank(text: &mut String, thread: u64) -> Result<(), NoMemory>
 }
 
 /// Adds a thread with its name, in the order of the threads' numbers.
+#[tactic(auto, using(crate::proofs::TextLemmas::two_written))]
 pub(crate) fn push_thread(text: &mut String, thread: u64, name: &str) -> Result<(), NoMemory>
     ensures { OnOk result (string_bytes text.new ≡ string_bytes text.old ++ next_texts (Thread thread name.now ∷ Rank thread ∷ [])) }
 {

@@ -6,6 +6,7 @@ ghost use Rattle.mh_tell_show.specs.{BeforeLaws.RowsDrawTheHeap, Bounds.PagesAre
 ghost use Rattle.mh_tell_show.specs.LeftOut.{KeptDeedsTellTheCursor, LeftOutDeedsDrawNothing};
 
 /// What a page begins with draws the heap before its first event.
+#[tactic(auto, using(crate::proofs::BeforeLemmas::rows_draw))]
 pub fn rows_draw_the_heap()
     ensures { RowsDrawTheHeap }
 {}
@@ -26,6 +27,7 @@ pub fn quanta_tell_the_cursor()
 {}
 
 /// What a page has of events has a bound.
+#[tactic(auto, using(crate::proofs::BoundLemmas::bounded))]
 pub fn pages_are_bounded()
     ensures { PagesAreBounded }
 {}

@@ -46,6 +46,7 @@ fn push_config(text: &mut String, config: Config) -> Result<(), NoMemory>
 }
 
 /// Adds what stands before the events, after the names of sessions.
+#[tactic(auto, using(crate::proofs::TextLemmas::six))]
 fn push_front(
     text: &mut String,
     config: Config,

@@ -32,6 +32,7 @@ use mh_window_curve::script::machine_after;
 use std::alloc::Global;
 
 /// How many events of a script are before these, and how many up to their last.
+#[tactic(auto, using(crate::proofs::RunLemmas::asked_is))]
 fn bounds(options: RangeOptions, events: &[Event]) -> (usize, usize)
     ensures before { result.0 ≡ length (events_before options events.now) }
     ensures order { result.0 ≤ result.1 }

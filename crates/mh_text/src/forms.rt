@@ -20,6 +20,7 @@ pub fn command_of(mut words: Words<'_>) -> Option<Command>
     command_with(verb, numbers(words)?.as_slice())
 }
 
+#[tactic(auto, using(crate::proofs::FormLemmas::end_said))]
 fn command_with(verb: &[u8], numbers: &[u64]) -> Option<Command>
     ensures { result ≡ said command_rows verb.now numbers.now }
 {

@@ -66,6 +66,7 @@ impl<'a> Model for Names<'a> {
 }
 
 impl<'a> Names<'a> {
+    #[tactic(auto, using(crate::proofs::NameLemmas::none_known))]
     pub fn new(alloc: Global) -> Names<'a>
         ensures { result ≡ [] }
     {

@@ -137,6 +137,7 @@ pub fn number(word: &[u8]) -> Option<u64>
 
 /// The number of several digits that a text begins with before this byte, and what follows that.
 #[inline(never)]
+#[tactic(auto, using(crate::proofs::PlainLemmas::long_number))]
 fn long_number_before(end: u8, text: &[u8]) -> Option<(u64, &[u8])>
     ensures some { IfSome result (λ found. BeginsWithNumberBefore end text.now found.0 found.1.now) }
     ensures shorter { IfSome result (λ found. length found.1.now < length text.now) }
@@ -151,6 +152,7 @@ fn long_number_before(end: u8, text: &[u8]) -> Option<(u64, &[u8])>
 
 /// The number that a text begins with before this byte, and what follows that. Most numbers have one digit or two.
 #[inline(always)]
+#[tactic(auto, using(crate::proofs::PlainLemmas::two_digits))]
 pub(crate) fn number_before(end: u8, text: &[u8]) -> Option<(u64, &[u8])>
     ensures some { IfSome result (λ found. BeginsWithNumberBefore end text.now found.0 found.1.now) }
     ensures shorter { IfSome result (λ found. length found.1.now < length text.now) }

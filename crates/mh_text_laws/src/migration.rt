@@ -2,6 +2,7 @@
 ghost use Rattle.mh_text_laws.specs.Migration.{MigrationKeepsHistories, MigratedTextsAreLegal, TextsAreMigrated};
 
 /// A legal history of version 1 is migrated to a legal one of version 2 with the same entries.
+#[tactic(auto, using(crate::proofs::migration::MigratedRecords::migration_keeps))]
 pub fn migration_keeps_histories()
     ensures { MigrationKeepsHistories }
 {}
@@ -12,6 +13,7 @@ pub fn migrated_texts_are_legal()
 {}
 
 /// Every text is migrated.
+#[tactic(auto, using(crate::proofs::migration::MigratedRecords::texts_migrated))]
 pub fn texts_are_migrated()
     ensures { TextsAreMigrated }
 {}

@@ -92,7 +92,8 @@ module _ (options : CurveOptions) (text rest : Text) (long : 2147483648 < length
   longer = omega (arith, length-append text rest)
 
   ends-long : (kind : TextKind) → Same kind text (text ++ rest) → (ended : CurveEnd) → EndsSo kind options.promises text ended → EndsSo kind options.promises (text ++ rest) ended
-  ends-long kind same (Drawn broken) ends = (ends.0, letters_same kind text (text ++ rest) ends.0 same ends.1, ends.2)
+  ends-long kind same (Drawn judgement) ends = (ends.0, letters_same kind text (text ++ rest) ends.0 same ends.1, ends.2)
+  ends-long kind same (CurveEnd.HistoryFull judgement) ends = absurd ends
   ends-long kind same (ScriptRefused refusal) ends = absurd ends
   ends-long History same (HistoryRefused line reason) (bad, is) =
       let zero : line ≡ 0 = same_line (recorded_reading text) line 0 bad (record_long text long) in

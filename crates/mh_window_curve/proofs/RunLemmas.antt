@@ -1,21 +1,19 @@
 -- The machine after events, one by one, whose trace is short.
 use Rattle.std.proofs.Common.{◌≡◌, ◌∙◌, ℕ, ◌+◌, ◌*◌, ◌<◌, ◌≤◌, List, [], length, take, get_or, inl, inr, refl, ap, sym, subst, arith}
 use Rattle.std.proofs.{Math.Nat.mul-le-mul, lemmas.List.{take_all, take_more}}
-use Rattle.std.specs.Prelude.{Option, Some, None, IfSome, IsSome, Result, Ok, Err}
+use Rattle.std.specs.Prelude.{Option, Some, None, IsErrAnd, Result, Ok, Err}
 use Rattle.mh_model.specs.{declared.birth.TheConstants.LIFE, declared.command.Event.Event}
 use Rattle.mh_model.specs.{declared.config.Config.Config, declared.config.Rules.Rules, Bytes.Text, Configs.with_rules}
 use Rattle.mh_model.specs.{Limits.most_entries, Script.Meaning}
 use Rattle.mh_model.specs.Machine.{Machine, event_step, first_machine, machine_after}
 use Rattle.mh_orders.specs.declared.curve.CurveOptions.{CurveOptions}
-use Rattle.mh_text.specs.Devices.{Device}
+use Rattle.mh_text.specs.{Devices.Device, declared.stream.ReadError.ReadError}
 use Rattle.mh_script.specs.{declared.end.End.End, declared.fault.ScriptFault.ScriptFault}
 use Rattle.mh_script.specs.declared.fault.ScriptFault.TheVariants.{Read, Write, NoMemory, HistoryFull}
-use Rattle.mh_script.specs.{Run.{IsTranscript, MayEndSo}, Tasks.{IsDone, IsWritten}}
-use Rattle.mh_window_curve.specs.declared.end.CurveEnd.{CurveEnd}
-use Rattle.mh_window_curve.specs.declared.end.CurveEnd.TheVariants.{Drawn, ScriptRefused}
-use Rattle.mh_window_curve.specs.declared.promises.Broken.{Broken}
-use Rattle.mh_window_curve.specs.Runs.{IsCurveOutput, IsDrawingRun, IsFoundOfRun, IsJudgedRun, curve_run}
-use Rattle.mh_window_curve.specs.Auxiliary.{IsEndOf}
+use Rattle.mh_script.specs.{Run.IsTranscript, Tasks.{IsDone, IsWritten}, Texts.IsReadFault}
+use Rattle.mh_window_curve.specs.{declared.end.CurveEnd.CurveEnd, declared.promises.PromiseJudgement.PromiseJudgement}
+use Rattle.mh_window_curve.specs.Runs.{IsCurveOutput, IsDrawingRun, IsFoundOfRun, curve_run}
+use Rattle.mh_window_curve.specs.Auxiliary.{IsEndOf, IsFoundIf}
 use Rattle.mh_run_laws.proofs.runs.RunsByEvents.{after_more}
 use Rattle.mh_run_laws.specs.Bounds.{RunsStayWithinTheirEvents, most_letters}
 
@@ -43,60 +41,65 @@ short_run law config events few =
 
 -- Curves -----------------------------------------------------------------------------------------
 
-module _ (options : CurveOptions) (rules : Rules) (found : Option Broken) where
+module _ (options : CurveOptions) (rules : Rules) where
   -- a run that was written as its curve, if this was found
-  abbrev IsFound : Text → Result End ScriptFault → Text → Type 0
-  IsFound = IsTranscript (λ _. curve_run options.form) rules (λ config events. IsFoundOfRun options.promises config events found)
+  abbrev IsFound : Option PromiseJudgement → Text → Result End ScriptFault → Text → Type 0
+  IsFound found = IsTranscript (λ _. curve_run options.form) rules (λ config events. IsFoundOfRun options.promises config events found)
 
-  -- something was found of a script that was done
-  some_found : (text out : Text) → IsFound text (Ok End.Done) out → IsSome found
-  some_found text out is = by found is.leaves.2 where
-    by : (o : Option Broken) → IsFoundOfRun options.promises (with_rules rules is.leaves.0.config) (take most_entries is.leaves.0.events) o → IsSome o
-    by None none = absurd none
-    by (Some broken) some = refl
+  ends_so : (found : Option PromiseJudgement) (ended : Result End ScriptFault) (ended' : Result CurveEnd ScriptFault) → IsEndOf ended found ended' → (text out : Text) → IsFound found text ended out → IsCurveOutput options rules text ended' out
+  ends_so (Some judgement) (Ok End.Done) ended' is text out wrote = subst (λ e. IsCurveOutput options rules text e out) (sym is) (wrote.output.0, (wrote.output.1, wrote.leaves))
+  ends_so (Some judgement) (Err HistoryFull) ended' is text out wrote = subst (λ e. IsCurveOutput options rules text e out) (sym is) (wrote.output.0, (wrote.output.1, wrote.leaves))
+  ends_so None (Ok End.Done) ended' is text out wrote = absurd is
+  ends_so None (Err HistoryFull) ended' is text out wrote = absurd is
+  ends_so found (Ok (End.Refused refusal)) ended' is text out wrote = subst (λ e. IsCurveOutput options rules text e out) (sym is) (wrote.output.0, wrote.output.1)
+  ends_so found (Err Read) ended' is text out wrote = subst (λ e. IsCurveOutput options rules text e out) (sym is) (wrote.output.0, wrote.output.1)
+  ends_so found (Err Write) ended' is text out wrote = subst (λ e. IsCurveOutput options rules text e out) (sym is) (wrote.output.0, wrote.output.1)
+  ends_so found (Err NoMemory) ended' is text out wrote = subst (λ e. IsCurveOutput options rules text e out) (sym is) (wrote.output.0, wrote.output.1)
 
-  -- a curve ends as its run
-  ends_drawn : (end : End) (ended : CurveEnd) → IsEndOf ended end → (end ≡ End.Done → IfSome found (λ broken. ended ≡ Drawn broken)) → (text out : Text) → IsFound text (Ok end) out → IsCurveOutput options rules text (Ok ended) out
-  ends_drawn End.Done (Drawn broken) is drawn text out wrote = (wrote.output.0, (wrote.output.1, (script, wrote.leaves.1, by found (drawn refl) wrote.leaves.2))) where
-    script : Meaning
-    script = wrote.leaves.0
+  -- a source that isn't read is no full history
+  read_some : (error : ReadError) → IsReadFault error HistoryFull → ⊥
+  read_some ReadError.Device is = absurd cc
+  read_some ReadError.NoMemory is = absurd cc
 
-    by : (o : Option Broken) → IfSome o (λ other. Drawn broken ≡ Drawn other) → IsFoundOfRun options.promises (with_rules rules script.config) (take most_entries script.events) o
-        → IsJudgedRun options.promises (with_rules rules script.config) (take most_entries script.events) broken
-    by None same none = absurd none
-    by (Some other) same judged = let is : other ≡ broken = cc in subst (IsJudgedRun options.promises (with_rules rules script.config) (take most_entries script.events)) is judged
-  ends_drawn (End.Refused refusal) (Drawn broken) is drawn text out wrote = absurd cc
-  ends_drawn end (ScriptRefused refusal) is drawn text out wrote = (wrote.output.0, subst (λ e. MayEndSo text (Ok e)) is wrote.output.1)
-  ends_drawn end other is drawn text out wrote = absurd is
+  unread_so : (found : Option PromiseJudgement) (ended : Result End ScriptFault) (ended' : Result CurveEnd ScriptFault) → IsEndOf ended found ended' → (error : ReadError) → IsErrAnd ended (IsReadFault error) → IsErrAnd ended' (IsReadFault error)
+  unread_so found (Ok end) ended' is error fault = absurd fault
+  unread_so found (Err HistoryFull) ended' is error fault = absurd (read_some error fault)
+  unread_so found (Err Read) ended' is error fault = subst (λ e. IsErrAnd e (IsReadFault error)) (sym is) fault
+  unread_so found (Err Write) ended' is error fault = subst (λ e. IsErrAnd e (IsReadFault error)) (sym is) fault
+  unread_so found (Err NoMemory) ended' is error fault = subst (λ e. IsErrAnd e (IsReadFault error)) (sym is) fault
+
+  module _ (sink sink' : Device) where
+    written_so : (found : Option PromiseJudgement) (ended : Result End ScriptFault) (ended' : Result CurveEnd ScriptFault) → IsEndOf ended found ended' → (written : Text) → IsWritten sink sink' written ended → IsWritten sink sink' written ended'
+    written_so (Some judgement) (Ok End.Done) ended' is written wrote = subst (IsWritten sink sink' written) (sym is) wrote
+    written_so (Some judgement) (Err HistoryFull) ended' is written wrote = subst (IsWritten sink sink' written) (sym is) wrote
+    written_so None (Ok End.Done) ended' is written wrote = absurd is
+    written_so None (Err HistoryFull) ended' is written wrote = absurd is
+    written_so found (Ok (End.Refused refusal)) ended' is written wrote = subst (IsWritten sink sink' written) (sym is) wrote
+    written_so found (Err Read) ended' is written wrote = subst (IsWritten sink sink' written) (sym is) wrote
+    written_so found (Err Write) ended' is written wrote = subst (IsWritten sink sink' written) (sym is) wrote
+    written_so found (Err NoMemory) ended' is written wrote = subst (IsWritten sink sink' written) (sym is) wrote
 
   module _ {source source' sink sink' : Device} where
-    pub found_some : (end : End) → end ≡ End.Done → IsDone IsFound 67108864 source source' sink sink' (Ok end) → IsSome found
-    found_some end is (inl unread) = absurd unread.is
-    found_some end is (inr done) = some_found done.text done.performed.written (subst (λ e. IsFound done.text (Ok e) done.performed.written) is done.performed.does)
+    -- something was found of a run whose curve was written
+    pub found_so : (found : Option PromiseJudgement) (ended : Result End ScriptFault) → IsDone (IsFound found) 67108864 source source' sink sink' ended → IsFoundIf ended found
+    found_so (Some judgement) (Ok End.Done) is = refl
+    found_so (Some judgement) (Err HistoryFull) is = refl
+    found_so None (Ok End.Done) (inl unread) = absurd unread.is
+    found_so None (Ok End.Done) (inr done) = absurd done.performed.does.leaves.2
+    found_so None (Err HistoryFull) (inl unread) = absurd (read_some unread.error unread.is)
+    found_so None (Err HistoryFull) (inr done) = absurd done.performed.does.leaves.2
+    found_so found (Ok (End.Refused refusal)) is = tt
+    found_so found (Err Read) is = tt
+    found_so found (Err Write) is = tt
+    found_so found (Err NoMemory) is = tt
 
-    pub drawn_so : (end : End) (ended : CurveEnd) → IsEndOf ended end → (end ≡ End.Done → IfSome found (λ broken. ended ≡ Drawn broken)) → IsDone IsFound 67108864 source source' sink sink' (Ok end) → IsDrawingRun options rules source source' sink sink' (Ok ended)
-    drawn_so end ended is drawn (inl unread) = absurd unread.is
-    drawn_so end ended is drawn (inr done) = inr (record {
+    -- a curve ends as its run
+    pub drawn_so : (found : Option PromiseJudgement) (ended : Result End ScriptFault) (ended' : Result CurveEnd ScriptFault) → IsEndOf ended found ended' → IsDone (IsFound found) 67108864 source source' sink sink' ended → IsDrawingRun options rules source source' sink sink' ended'
+    drawn_so found ended ended' is (inl unread) = inl (record { error = unread.error; why = unread.why; is = unread_so found ended ended' is unread.error unread.is; unwritten = unread.unwritten })
+    drawn_so found ended ended' is (inr done) = inr (record {
       text = done.text;
       is_text = done.is_text;
-      performed = record { written = done.performed.written; does = ends_drawn end ended is drawn done.text done.performed.written done.performed.does; wrote = done.performed.wrote };
+      performed = record { written = done.performed.written; does = ends_so found ended ended' is done.text done.performed.written done.performed.does; wrote = written_so sink sink' found ended ended' is done.performed.written done.performed.wrote };
       read = done.read;
       gives = done.gives;
     })
-
-    -- a curve is not drawn for the fault of its run
-    pub undrawn : (fault : ScriptFault) → IsDone IsFound 67108864 source source' sink sink' (Err fault) → IsDrawingRun options rules source source' sink sink' (Err fault)
-    undrawn fault (inl unread) = inl (record { error = unread.error; why = unread.why; is = unread.is; unwritten = unread.unwritten })
-    undrawn fault (inr done) = inr (record {
-      text = done.text;
-      is_text = done.is_text;
-      performed = record { written = done.performed.written; does = done.performed.does.output; wrote = by fault done.performed.wrote };
-      read = done.read;
-      gives = done.gives;
-    })
-      where
-        by : (f : ScriptFault) → IsWritten {X = End} sink sink' done.performed.written (Err f) → IsWritten {X = CurveEnd} sink sink' done.performed.written (Err f)
-        by Read is = is
-        by Write is = is
-        by NoMemory is = is
-        by HistoryFull is = is

@@ -10,7 +10,8 @@ use Rattle.mh_text.specs.Pieces.{Lines}
 use Rattle.mh_history.specs.Beginnings.{TakesEntry, line_as_measured, after_header}
 use Rattle.mh_history.proofs.LineLemmas.{Walked, walked_more}
 use Rattle.mh_window_curve.specs.{declared.tally.Tally.Tally, Drawings.{IsJudgedText, TakesToDraw}, Promises.IsJudged}
-use Rattle.mh_window_curve.specs.{declared.kind.TextKind.TheVariants.History, declared.promises.Broken.Broken}
+use Rattle.mh_window_curve.specs.declared.kind.TextKind.TheVariants.{History}
+use Rattle.mh_window_curve.specs.declared.promises.PromiseJudgement.{PromiseJudgement}
 use Rattle.mh_window_curve.specs.Histories.{Extends, IsShortTrace, IsLongHistory, history_curve, recorded_curve, short_reading, traced_curve, greatest_spent, letters_of_entries, letters_of_entry}
 use Rattle.mh_window_curve.specs.Auxiliary.{IsTallyOf, IsTraceIf, IsTraceOf}
 use Rattle.mh_orders.specs.declared.{curve.CurveForm.CurveForm, promises.Promises.Promises}
@@ -79,10 +80,10 @@ module _ {config : Config} {text : Text} {kept : Tally} (read : HasRead config t
         let recorded : Recorded = record { config = config; entries = read.entries } in
         ap short_reading read.reads ∙ ap (λ (b : Bool). if b then Means recorded else BadLine 0) few
 
-    pub judged_read : (promises : Promises) (broken : Broken) (trace : TraceState) → trace ≡ kept.trace.trace → IsJudged promises trace.letters broken → IsJudgedText History promises text broken
-    judged_read promises broken trace same judged =
+    pub judged_read : (promises : Promises) (judgement : PromiseJudgement) (trace : TraceState) → trace ≡ kept.trace.trace → IsJudged promises trace.letters judgement → IsJudgedText History promises text judgement
+    judged_read promises judgement trace same judged =
         let letters : trace.letters ≡ letters_of_entries read.entries = ap (λ (t : TraceState). t.letters) same ∙ trace_is.letters in
-        (letters_of_entries read.entries, (record { config = config; entries = read.entries }, is_read, refl), subst (λ ls. IsJudged promises ls broken) letters judged)
+        (letters_of_entries read.entries, (record { config = config; entries = read.entries }, is_read, refl), subst (λ ls. IsJudged promises ls judgement) letters judged)
 
     pub curve_read : (form : CurveForm) (bytes : Text) → bytes ≡ traced_curve form config kept.trace.trace → bytes ≡ history_curve form text
     curve_read form bytes is =

@@ -1,5 +1,6 @@
 -- Auxiliary definitions: what loops, private functions and the insides of types keep. No public contract depends on them.
-use Rattle.std.specs.{Prelude.{◌≡◌, ℕ, List, [], ◌≤◌, Bool, true, false, ◌∷◌, ◌++◌, length}, String.string_bytes}
+use Rattle.std.specs.Prelude.{◌≡◌, ℕ, List, [], ◌≤◌, Bool, true, false, ◌∷◌, ◌++◌, length, Option, Some, None, IsSome, Result, Ok, Err}
+use Rattle.std.specs.String.{string_bytes}
 use Rattle.mh_model.specs.{Bytes.Text, HistoryTexts.recorded_reading, Script.BadLine, Trace.{Letter, TraceState}}
 use Rattle.mh_model.specs.{declared.birth.TheConstants.LIFE, declared.history.Measured.Measured}
 use Rattle.mh_orders.specs.declared.curve.CurveOptions.{CurveOptions}
@@ -11,8 +12,10 @@ use Rattle.mh_window_curve.specs.Histories.{IsLongHistory, letters_of_entries, g
 use Rattle.mh_window_curve.specs.{Drawings.{IsOfText, IsJudgedText}, declared.tally.Tally.Tally}
 use Rattle.mh_window_curve.specs.declared.end.CurveEnd.{CurveEnd}
 use Rattle.mh_window_curve.specs.declared.end.CurveEnd.TheVariants.{Drawn, ScriptRefused}
+use Rattle.mh_window_curve.specs.declared.promises.PromiseJudgement.{PromiseJudgement}
 use Rattle.mh_windows.specs.{Lowest.IsLowest, declared.always.WindowLeast.WindowLeast}
-use Rattle.mh_script.specs.declared.end.End.{End}
+use Rattle.mh_script.specs.declared.{end.End.End, end.End.TheVariants.{Done, Refused}, fault.ScriptFault.ScriptFault}
+use Rattle.mh_script.specs.declared.fault.ScriptFault.TheVariants.{HistoryFull}
 
 -- the text has this first bad line. That a history has too many units is another matter
 abbrev pub IsBadLine : TextKind → Text → ℕ → Type 0
@@ -21,7 +24,7 @@ IsBadLine Pauses text line = pause_reading text ≡ BadLine line
 
 -- what is drawn of a text, before it is written
 abbrev pub IsDrawnText : TextKind → CurveOptions → Text → Drawing → Type 0
-IsDrawnText kind options text (Curve written broken) = IsJudgedText kind options.promises text broken × IsOfText kind options text (string_bytes written)
+IsDrawnText kind options text (Curve written judgement) = IsJudgedText kind options.promises text judgement × IsOfText kind options text (string_bytes written)
 IsDrawnText kind options text (Refused line) = IsBadLine kind text line
 IsDrawnText History options text TooLong = IsLongHistory text
 IsDrawnText Pauses options text TooLong = ⊥
@@ -49,8 +52,17 @@ pub record AddsPlace (letters : List Letter) (window : ℕ) (points points' : Li
   pub added : points' ≡ points ++ point ∷ []
   pub placed : places' ≡ places ++ place ∷ []
 
--- the end of a run whose curve was drawn, or of a script that was refused
-abbrev pub IsEndOf : CurveEnd → End → Type 0
-IsEndOf (Drawn broken) end = end ≡ End.Done
-IsEndOf (ScriptRefused refusal) end = end ≡ End.Refused refusal
-IsEndOf other end = ⊥
+-- something was found of a run, if it ended as one does whose curve was written
+abbrev pub IsFoundIf : Result End ScriptFault → Option PromiseJudgement → Type 0
+IsFoundIf (Ok Done) found = IsSome found
+IsFoundIf (Err HistoryFull) found = IsSome found
+IsFoundIf ended found = Unit {0}
+
+-- how the curve of a run ends that ended so, of which this was found
+abbrev pub IsEndOf : Result End ScriptFault → Option PromiseJudgement → Result CurveEnd ScriptFault → Type 0
+IsEndOf (Ok Done) (Some judgement) ended = ended ≡ Ok (Drawn judgement)
+IsEndOf (Ok Done) None ended = ⊥
+IsEndOf (Ok (Refused refusal)) found ended = ended ≡ Ok (ScriptRefused refusal)
+IsEndOf (Err HistoryFull) (Some judgement) ended = ended ≡ Ok (CurveEnd.HistoryFull judgement)
+IsEndOf (Err HistoryFull) None ended = ⊥
+IsEndOf (Err fault) found ended = ended ≡ Err fault

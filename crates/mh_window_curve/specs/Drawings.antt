@@ -5,7 +5,7 @@ use Rattle.mh_model.specs.{Bytes.Text, HistoryTexts.{Recorded, recorded_reading}
 use Rattle.mh_orders.specs.declared.{curve.CurveOptions.CurveOptions, promises.Promises.Promises}
 use Rattle.mh_window_pauses.specs.Logs.{BeginsWithLine, pause_reading}
 use Rattle.mh_window_curve.specs.{declared.kind.TextKind.TextKind, declared.kind.TextKind.TheVariants.{History, Pauses}}
-use Rattle.mh_window_curve.specs.declared.promises.Broken.{Broken}
+use Rattle.mh_window_curve.specs.declared.promises.PromiseJudgement.{PromiseJudgement}
 use Rattle.mh_window_curve.specs.{Histories.{history_curve, letters_of_entries, short_reading}, PauseTexts.IsOfLog}
 use Rattle.mh_window_curve.specs.Promises.{IsJudged}
 
@@ -25,5 +25,5 @@ TakesToDraw History text = BeginsWithMeasured text ⊎ ((recorded : Recorded) ×
 TakesToDraw Pauses text = BeginsWithLine text ⊎ ((letters : List Letter) × (pause_reading text ≡ Means letters))
 
 -- what its units break of promises
-abbrev pub IsJudgedText : TextKind → Promises → Text → Broken → Type 0
-IsJudgedText kind promises text broken = (letters : List Letter) × HasLetters kind text letters × IsJudged promises letters broken
+abbrev pub IsJudgedText : TextKind → Promises → Text → PromiseJudgement → Type 0
+IsJudgedText kind promises text judgement = (letters : List Letter) × HasLetters kind text letters × IsJudged promises letters judgement

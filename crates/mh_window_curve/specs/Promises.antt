@@ -1,10 +1,12 @@
 -- What is promised of all windows of a trace, and what of it isn't so.
-use Rattle.std.specs.Prelude.{◌≡◌, ℕ, ◌+◌, ◌-◌, ◌<◌, ◌≤◌, Bool, ◌||◌, Option, Some, None, MatchOption, is_some, List, length}
-use Rattle.mh_model.specs.Trace.{Letter}
+use Rattle.std.specs.Prelude.{◌≡◌, ℕ, ◌+◌, ◌-◌, ◌<◌, ◌≤◌, ◌==◌, nat_lt, if◌then◌else◌, Bool, not, ◌||◌, Option, Some, None, MatchOption, is_some, List, length}
+use Rattle.mh_model.specs.Trace.{Letter, floor}
 use Rattle.mh_orders.specs.declared.promises.{Promises.Promises, Round.Round, Share.Share}
 use Rattle.mh_run_laws.specs.Windows.{KeepsFloor, KeepsShare, units_in}
 use Rattle.mh_windows.specs.{declared.floor.BrokenFloor.BrokenFloor, Always.IsBroken, Pauses.IsLongest, Shares.IsShort}
-use Rattle.mh_window_curve.specs.declared.promises.{Broken.Broken, LongPause.LongPause, ShortStretch.ShortStretch}
+use Rattle.mh_window_curve.specs.declared.promises.{Broken.Broken, LongPause.LongPause}
+use Rattle.mh_window_curve.specs.declared.promises.{PromiseJudgement.PromiseJudgement, ShortStretch.ShortStretch}
+use Rattle.mh_window_curve.specs.declared.promises.Untried.{Untried}
 
 -- no stretch without a unit of the mutator is longer
 abbrev pub KeepsPauses : ℕ → List Letter → Type 0
@@ -35,12 +37,33 @@ abbrev pub JudgesShare : List Letter → Option Share → Option ShortStretch �
 JudgesShare letters None found = found ≡ None
 JudgesShare letters (Some share) found = MatchOption found (KeepsShare share.percent 100 share.from letters) (LacksShare share letters)
 
--- What is broken of what was promised of a trace
-pub record IsJudged (promises : Promises) (letters : List Letter) (broken : Broken) : Type 0 where
-  pub round : JudgesRound letters promises.round broken.floor
-  pub pauses : JudgesPauses letters promises.longest broken.pause
-  pub share : JudgesShare letters promises.share broken.stretch
+-- rounds by which no window of so many units has a floor: none that is shorter has one
+abbrev pub untried_round : ℕ → Option Round → Option Round
+untried_round units None = None
+untried_round units (Some round) = if floor round.every round.quantum units == 0 then Some round else None
 
--- whether anything that was promised isn't so
-abbrev pub is_any_broken : Broken → Bool
-is_any_broken broken = is_some broken.floor || (is_some broken.pause || is_some broken.stretch)
+-- a longest pause that is as long as all the units
+abbrev pub untried_pause : ℕ → Option ℕ → Option ℕ
+untried_pause units None = None
+untried_pause units (Some most) = if nat_lt most units then None else Some most
+
+-- a share of stretches that are longer than all the units
+abbrev pub untried_share : ℕ → Option Share → Option Share
+untried_share units None = None
+untried_share units (Some share) = if nat_lt units share.from then Some share else None
+
+-- The promises for which a trace of so many units is too short: none of as many breaks them
+abbrev pub untried : ℕ → Promises → Untried
+untried units promises = record { units = units; floor = untried_round units promises.round; pause = untried_pause units promises.longest; stretch = untried_share units promises.share }
+
+-- What is broken of what was promised of a trace, and what of it the trace is too short to break
+pub record IsJudged (promises : Promises) (letters : List Letter) (found : PromiseJudgement) : Type 0 where
+  pub round : JudgesRound letters promises.round found.broken.floor
+  pub pauses : JudgesPauses letters promises.longest found.broken.pause
+  pub share : JudgesShare letters promises.share found.broken.stretch
+  pub untried : found.untried ≡ untried (length letters) promises
+
+-- whether each promise was tried, and is kept
+abbrev pub is_kept : PromiseJudgement → Bool
+is_kept found =
+    not ((is_some found.broken.floor || (is_some found.broken.pause || is_some found.broken.stretch)) || (is_some found.untried.floor || (is_some found.untried.pause || is_some found.untried.stretch)))

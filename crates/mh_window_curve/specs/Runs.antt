@@ -8,15 +8,15 @@ use Rattle.mh_orders.specs.declared.promises.Promises.{Promises}
 use Rattle.mh_window_pauses.specs.{Logs.pause_reading, Reasons.IsPauseReason}
 use Rattle.mh_reasons.specs.HistoryReasons.{IsHistoryReason}
 use Rattle.mh_script.specs.{declared.end.End.End, declared.fault.ScriptFault.ScriptFault}
-use Rattle.mh_script.specs.declared.fault.ScriptFault.TheVariants.{Write, NoMemory}
-use Rattle.mh_script.specs.{Run.{LeavesForm, MayEndSo, transcript}, Tasks.IsDone}
+use Rattle.mh_script.specs.declared.fault.ScriptFault.TheVariants.{Write, NoMemory, HistoryFull}
+use Rattle.mh_script.specs.{Run.{HasRun, MayEndSo, transcript}, Tasks.IsDone}
 use Rattle.mh_text.specs.Devices.{Device}
 use Rattle.mh_window_curve.specs.declared.end.CurveEnd.{CurveEnd}
 use Rattle.mh_window_curve.specs.declared.end.CurveEnd.TheVariants.{Drawn, ScriptRefused, HistoryRefused, HistoryTooLong, LogRefused}
 use Rattle.mh_window_curve.specs.{declared.kind.TextKind.TextKind, declared.kind.TextKind.TheVariants.{History, Pauses}}
-use Rattle.mh_window_curve.specs.{declared.promises.Broken.Broken, Drawings.{IsJudgedText, IsOfText, TakesToDraw}}
-use Rattle.mh_window_curve.specs.{Histories.IsLongHistory, Points.{trace_counts, points_of}, Promises.IsJudged}
-use Rattle.mh_window_curve.specs.Texts.{curve_text}
+use Rattle.mh_window_curve.specs.declared.promises.PromiseJudgement.{PromiseJudgement}
+use Rattle.mh_window_curve.specs.{Drawings.{IsJudgedText, IsOfText, TakesToDraw}, Histories.IsLongHistory}
+use Rattle.mh_window_curve.specs.{Points.{trace_counts, points_of}, Promises.IsJudged, Texts.curve_text}
 
 -- Scripts ----------------------------------------------------------------------------------------
 
@@ -30,19 +30,21 @@ curve_run form config events =
 abbrev pub curve_output : CurveForm → Rules → Text → Text
 curve_output form rules text = transcript (λ _. curve_run form) rules text
 
--- what a run of these events breaks of promises
-abbrev pub IsJudgedRun : Promises → Config → List Event → Broken → Type 0
-IsJudgedRun promises config events broken = IsJudged promises (machine_after (first_machine config) events).trace.letters broken
+-- what was found of promises on the trace of a run of these events
+abbrev pub IsJudgedRun : Promises → Config → List Event → PromiseJudgement → Type 0
+IsJudgedRun promises config events judgement = IsJudged promises (machine_after (first_machine config) events).trace.letters judgement
 
--- what was found says what a run of these events breaks of promises
-abbrev pub IsFoundOfRun : Promises → Config → List Event → Option Broken → Type 0
+-- that was found of a run of these events
+abbrev pub IsFoundOfRun : Promises → Config → List Event → Option PromiseJudgement → Type 0
 IsFoundOfRun promises config events found = IsSomeAnd found (IsJudgedRun promises config events)
 
--- how the curve of a run of a text may end. A curve that was drawn has what the run breaks of promises
+-- how the curve of a run of a text may end. A curve that was drawn has what was found of promises, also if more events are left than were done
 abbrev pub MayEndDrawn : CurveOptions → Rules → Text → Result CurveEnd ScriptFault → Type 0
-MayEndDrawn options rules text (Ok (Drawn broken)) = MayEndSo text (Ok End.Done) × LeavesForm (λ config events. IsJudgedRun options.promises config events broken) rules text (Ok End.Done)
+MayEndDrawn options rules text (Ok (Drawn judgement)) = MayEndSo text (Ok End.Done) × HasRun (λ config events. IsJudgedRun options.promises config events judgement) rules text
+MayEndDrawn options rules text (Ok (CurveEnd.HistoryFull judgement)) = MayEndSo text (Err HistoryFull) × HasRun (λ config events. IsJudgedRun options.promises config events judgement) rules text
 MayEndDrawn options rules text (Ok (ScriptRefused refusal)) = MayEndSo text (Ok (End.Refused refusal))
 MayEndDrawn options rules text (Ok other) = ⊥
+MayEndDrawn options rules text (Err HistoryFull) = ⊥
 MayEndDrawn options rules text (Err fault) = MayEndSo text (Err fault)
 
 -- this is to be written of a script if its curve ended so
@@ -57,7 +59,8 @@ IsDrawingRun options rules = IsDone (IsCurveOutput options rules) 67108864
 
 -- how the curve of a text ends; a reason is true of the bad line
 abbrev pub EndsSo : TextKind → Promises → Text → CurveEnd → Type 0
-EndsSo kind promises text (Drawn broken) = IsJudgedText kind promises text broken
+EndsSo kind promises text (Drawn judgement) = IsJudgedText kind promises text judgement
+EndsSo kind promises text (CurveEnd.HistoryFull judgement) = ⊥
 EndsSo kind promises text (ScriptRefused refusal) = ⊥
 EndsSo History promises text (HistoryRefused line reason) = (recorded_reading text ≡ BadLine line) × IsHistoryReason Two text line reason
 EndsSo History promises text HistoryTooLong = IsLongHistory text

@@ -10,7 +10,7 @@ use crate::kind::TextKind;
 use crate::pause_table::log_curve;
 use crate::point::TraceCounts;
 use crate::points::curve_points;
-use crate::promises::{Broken, broken_promises};
+use crate::promises::{PromiseJudgement, judge_promises};
 use crate::tally::tally_lines;
 use mh_history::lines::RefusedLine;
 use mh_history::record::record_lines;
@@ -25,8 +25,8 @@ use std::alloc::Global;
 /// What is to be written of a text.
 #[derive(Drop)]
 pub(crate) enum Drawing {
-    /// Its curve, and what was promised of its trace and isn't so.
-    Curve(String, Broken),
+    /// Its curve, and what was found of what was promised of its trace.
+    Curve(String, PromiseJudgement),
     /// The first bad line.
     Refused(u64),
     /// The trace of a history has 2 ^ 62 units or more.
@@ -72,8 +72,8 @@ fn drawn_history(alloc: Global, options: CurveOptions, text: &[u8]) -> Result<Dr
         return Ok(Drawing::TooLong);
     }
     let curve = recorded_text(alloc, options.form, config, &mut tally.trace)?;
-    let broken = broken_promises(&tally.trace, &options.promises);
-    Ok(Drawing::Curve(curve, broken))
+    let judgement = judge_promises(&tally.trace, &options.promises);
+    Ok(Drawing::Curve(curve, judgement))
 }
 
 /// What is drawn of a log of pauses. It takes no memory for a text that is refused at its first line.
@@ -87,8 +87,8 @@ fn drawn_log(alloc: Global, options: CurveOptions, text: &[u8]) -> Result<Drawin
         Err(TextError::NoMemory) => return Err(NoMemory),
     };
     let curve = log_curve(alloc, options, &trace)?;
-    let broken = broken_promises(&trace, &options.promises);
-    Ok(Drawing::Curve(curve, broken))
+    let judgement = judge_promises(&trace, &options.promises);
+    Ok(Drawing::Curve(curve, judgement))
 }
 
 /// What is drawn of a text of this kind.

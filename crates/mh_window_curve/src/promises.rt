@@ -1,10 +1,12 @@
 //! What is promised of all windows of a trace, and what of it isn't so. Each promise is decided by few windows, and what
-//! breaks one is shown.
+//! breaks one is shown. So is each promise that no trace of as few units can break.
 ghost use Rattle.std.specs.Prelude.{◌≡◌, ◌+◌, ◌-◌, ◌<◌, ◌≤◌, length};
-ghost use Rattle.mh_window_curve.specs.Promises.{IsJudged, JudgesPauses, JudgesRound, JudgesShare, is_any_broken};
+ghost use Rattle.mh_window_curve.specs.Promises.{IsJudged, JudgesPauses, JudgesRound, JudgesShare, is_kept, untried_pause, untried_round, untried_share};
 ghost use Rattle.mh_model.specs.declared.birth.TheConstants.{LIFE};
 ghost use Rattle.mh_run_laws.specs.Windows.{units_in};
 
+use crate::places::floor_by;
+use crate::points::letter_count;
 use mh_orders::promises::{Promises, Round, Share};
 use mh_report::trace::Trace;
 use mh_windows::floor::{BrokenFloor, broken_floor};
@@ -36,12 +38,39 @@ pub struct Broken {
     pub stretch: Option<ShortStretch>,
 }
 
-impl Broken {
-    /// Whether some promise is broken.
-    pub fn any(&self) -> bool
-        ensures { result ≡ is_any_broken self.now }
+/// Promises that no trace of so few units breaks, whatever they are.
+#[derive(Clone, Copy, Debug, PartialEq, Eq)]
+pub struct Untried {
+    /// The units of the trace.
+    pub units: u64,
+    /// Rounds by which none of its windows has a floor.
+    pub floor: Option<Round>,
+    /// A longest pause that has no fewer units.
+    pub pause: Option<u64>,
+    /// A share of stretches that are longer than the trace.
+    pub stretch: Option<Share>,
+}
+
+/// What was found of promises: those that a trace breaks, and those that it is too short to break.
+#[derive(Clone, Copy, Debug, PartialEq, Eq)]
+pub struct PromiseJudgement {
+    pub broken: Broken,
+    pub untried: Untried,
+}
+
+impl PromiseJudgement {
+    /// Whether each promise was tried and is kept.
+    pub fn is_kept(&self) -> bool
+        ensures { result ≡ is_kept self.now }
     {
-        self.floor.is_some() || self.pause.is_some() || self.stretch.is_some()
+        let PromiseJudgement { broken, untried } = self;
+        let is_broken = broken.floor.is_some()
+            || broken.pause.is_some()
+            || broken.stretch.is_some();
+        let is_untried = untried.floor.is_some()
+            || untried.pause.is_some()
+            || untried.stretch.is_some();
+        !(is_broken || is_untried)
     }
 }
 
@@ -87,14 +116,56 @@ fn judge_share(trace: &Trace, share: Option<Share>) -> Option<ShortStretch>
     })
 }
 
-/// What of these promises isn't so of a trace.
-pub fn broken_promises(trace: &Trace, promises: &Promises) -> Broken
+/// The rounds, if no window of so many units or fewer has a floor by them.
+fn untried_round(units: u64, round: Option<Round>) -> Option<Round>
+    ensures { result ≡ untried_round units round }
+{
+    match floor_by(round, units) {
+        Some(0) => round,
+        _ => None,
+    }
+}
+
+/// The longest pause that was promised, if so many units have no longer one.
+fn untried_pause(units: u64, longest: Option<u64>) -> Option<u64>
+    ensures { result ≡ untried_pause units longest }
+{
+    let promised = longest?;
+    if promised < units {
+        return None;
+    }
+    Some(promised)
+}
+
+/// The share that was promised, if so many units have no stretch as long.
+fn untried_share(units: u64, share: Option<Share>) -> Option<Share>
+    ensures { result ≡ untried_share units share }
+{
+    let promised = share?;
+    if units < promised.from {
+        Some(promised)
+    } else {
+        None
+    }
+}
+
+/// What of these promises isn't so of a trace, and which of them it is too short to break.
+pub fn judge_promises(trace: &Trace, promises: &Promises) -> PromiseJudgement
     requires { length trace.now.trace.letters < LIFE }
     ensures { IsJudged promises.now trace.now.trace.letters result }
 {
-    Broken {
-        floor: judge_round(trace, promises.round),
-        pause: judge_pauses(trace, promises.longest),
-        stretch: judge_share(trace, promises.share),
+    let units = letter_count(trace);
+    PromiseJudgement {
+        broken: Broken {
+            floor: judge_round(trace, promises.round),
+            pause: judge_pauses(trace, promises.longest),
+            stretch: judge_share(trace, promises.share),
+        },
+        untried: Untried {
+            units,
+            floor: untried_round(units, promises.round),
+            pause: untried_pause(units, promises.longest),
+            stretch: untried_share(units, promises.share),
+        },
     }
 }

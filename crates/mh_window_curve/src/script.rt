@@ -4,16 +4,16 @@
 //! script is refused as by a run, and a failed sink and out of memory leave a prefix. The trace of a run has fewer
 //! than 2 ^ 62 units by a law, so no script is too long for its curve. What is promised of all windows is judged once
 //! the curve is written.
-ghost use Rattle.std.specs.{Prelude.{◌≡◌, ◌<◌, ◌≤◌, length, IfOk, IfSome, IsSome}, String.string_bytes};
+ghost use Rattle.std.specs.{Prelude.{◌≡◌, ◌<◌, ◌≤◌, length, IfOk}, String.string_bytes};
 ghost use Rattle.mh_window_curve.specs.{Points.trace_counts, Runs.{IsDrawingRun, IsFoundOfRun, IsJudgedRun, curve_run}};
-ghost use Rattle.mh_window_curve.specs.Auxiliary.{IsEndOf};
+ghost use Rattle.mh_window_curve.specs.Auxiliary.{IsEndOf, IsFoundIf};
 ghost use Rattle.mh_model.specs.{Limits.most_entries, Machine.{first_machine, machine_after}};
 
 use crate::end::CurveEnd;
 use crate::form::curve_text;
 use crate::point::TraceCounts;
 use crate::points::curve_points;
-use crate::promises::{Broken, broken_promises};
+use crate::promises::{PromiseJudgement, judge_promises};
 use mh_machine::machine::Machine;
 use mh_model::command::Event;
 use mh_model::config::{Config, Rules};
@@ -68,32 +68,32 @@ fn run_text<C: Scanner>(
     config: Config,
     events: &[Event],
     scanner: &mut C,
-) -> Result<(String, Broken), NoMemory>
+) -> Result<(String, PromiseJudgement), NoMemory>
     requires { length events.now ≤ most_entries }
     ensures text { IfOk result (λ drawn. string_bytes drawn.0 ≡ curve_run options.form config events.now) }
-    ensures broken { IfOk result (λ drawn. IsJudgedRun options.promises config events.now drawn.1) }
+    ensures judgement { IfOk result (λ drawn. IsJudgedRun options.promises config events.now drawn.1) }
 {
     runs_stay_within_their_events();
     let machine = machine_after(alloc, config, events, scanner)?;
     let (_, mut trace) = machine.into_parts();
-    let broken = broken_promises(&trace, &options.promises);
+    let judgement = judge_promises(&trace, &options.promises);
     let counts = counts_of(&trace);
     let points = curve_points(alloc, &config, &mut trace)?;
     let text = curve_text(alloc, options.form, counts, points.as_slice())?;
-    Ok((text, broken))
+    Ok((text, judgement))
 }
 
 /// A run that is written as its curve, and what it breaks of what was promised.
 #[derive(Clone, Copy)]
 struct Drawn {
     options: CurveOptions,
-    broken: Option<Broken>,
+    judgement: Option<PromiseJudgement>,
 }
 
 impl Transcript for Drawn {
     ghost text_of = { λ drawn _. curve_run drawn.options.form };
 
-    ghost becomes = { λ old config events new. IsFoundOfRun old.options.promises config events new.broken };
+    ghost becomes = { λ old config events new. IsFoundOfRun old.options.promises config events new.judgement };
 
     fn write<C: Scanner, W: Sink>(
         &mut self,
@@ -104,29 +104,34 @@ impl Transcript for Drawn {
         scanner: &mut C,
         sink: &mut W,
     ) -> Result<(), WriteError> {
-        let (text, broken) = run_text(alloc, self.options, config, events, scanner)?;
-        self.broken = Some(broken);
+        let (text, judgement) = run_text(alloc, self.options, config, events, scanner)?;
+        self.judgement = Some(judgement);
         write_text(sink, text.as_bytes())?;
         Ok(())
     }
 }
 
-/// How the curve of a run ended that ended so.
-fn curve_end(end: End, broken: Option<Broken>) -> CurveEnd
-    requires { (end ≡ End.Done) → IsSome broken }
-    ensures end { IsEndOf result end }
-    ensures broken { (end ≡ End.Done) → IfSome broken (λ found. result ≡ CurveEnd.Drawn found) }
+/// How the curve of a run ended that ended so, of which this was found.
+fn curve_end(
+    ended: Result<End, ScriptFault>,
+    found: Option<PromiseJudgement>,
+) -> Result<CurveEnd, ScriptFault>
+    requires { IsFoundIf ended found }
+    ensures { IsEndOf ended found result }
 {
-    match (end, broken) {
-        (End::Refused(refusal), _) => CurveEnd::ScriptRefused(refusal),
-        (End::Done, Some(broken)) => CurveEnd::Drawn(broken),
-        (End::Done, None) => unreachable!(),
+    match (ended, found) {
+        (Ok(End::Refused(refusal)), _) => Ok(CurveEnd::ScriptRefused(refusal)),
+        (Ok(End::Done), Some(judgement)) => Ok(CurveEnd::Drawn(judgement)),
+        (Err(ScriptFault::HistoryFull), Some(judgement)) => Ok(CurveEnd::HistoryFull(judgement)),
+        (Ok(End::Done) | Err(ScriptFault::HistoryFull), None) => unreachable!(),
+        (Err(fault), _) => Err(fault),
     }
 }
 
 /// Reads a whole script, and then writes the curve of its run under these rules. Of a script that is outside the grammar it
 /// writes the one line that names the first bad line. At most `workers` threads scan at a time, the calling one among them.
-/// Neither their number nor the hook changes what is written. What of these promises isn't so stands in the result.
+/// Neither their number nor the hook changes what is written. What was found of these promises stands in the result, also
+/// of a script that has more events than a history: it is that of the events that were done.
 pub fn curve_script<R: Threads, S: Source, W: Sink, G: CrewGate>(
     rt: &R,
     alloc: Global,
@@ -143,10 +148,8 @@ pub fn curve_script<R: Threads, S: Source, W: Sink, G: CrewGate>(
     let mut scanner = CrewScan::new(rt, alloc, workers, gate);
     let mut drawn = Drawn {
         options,
-        broken: None,
+        judgement: None,
     };
-    match transcribe(alloc, &mut drawn, source, sink, rules, &mut scanner) {
-        Ok(end) => Ok(curve_end(end, drawn.broken)),
-        Err(fault) => Err(fault),
-    }
+    let ended = transcribe(alloc, &mut drawn, source, sink, rules, &mut scanner);
+    curve_end(ended, drawn.judgement)
 }

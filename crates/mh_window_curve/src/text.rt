@@ -70,8 +70,8 @@ impl Task for Draw {
         sink: &mut W,
     ) -> Result<CurveEnd, ScriptFault> {
         match drawn(alloc, self.kind, self.options, text)? {
-            Drawing::Curve(curve, broken) => match write_text(sink, curve.as_bytes()) {
-                Ok(()) => Ok(CurveEnd::Drawn(broken)),
+            Drawing::Curve(curve, judgement) => match write_text(sink, curve.as_bytes()) {
+                Ok(()) => Ok(CurveEnd::Drawn(judgement)),
                 Err(DeviceFailed) => Err(ScriptFault::Write),
             },
             Drawing::Refused(line) => match write_verdict(Verdict::Refused(line), sink) {

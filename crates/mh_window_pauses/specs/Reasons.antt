@@ -1,11 +1,12 @@
 -- Reasons: why the first bad line of a log of pauses is outside the grammar.
-use Rattle.std.specs.Prelude.{◌≡◌, ◌≢◌, ℕ, suc, ◌<◌, ◌≤◌, ◌^◌, Bool, true, false, ◌||◌, Option, Some, None, List, [], length, drop, codes}
+use Rattle.std.specs.Prelude.{◌≡◌, ◌≢◌, ℕ, suc, ◌<◌, ◌≤◌, ◌^◌, Bool, true, false, ◌||◌, List, [], ◌++◌, length, drop, codes}
 use Rattle.mh_model.specs.{declared.birth.TheConstants.LIFE, declared.history.Version.Version}
 use Rattle.mh_model.specs.{declared.history.Version.TheVariants.{One, Two}, Bytes.{Text, cut_after, is_text, words}}
 use Rattle.mh_model.specs.Script.{Means}
 use Rattle.mh_history.specs.Beginnings.{entries_left}
 use Rattle.mh_reasons.specs.{Lines.{HasByteFault, HasPair, IsPlain}, Numbers.HasNumberFault, Quotes.Quotes}
 use Rattle.mh_reasons.specs.Reasons.{IsHistory, StandsAtLine, word_at}
+use Rattle.mh_reasons.specs.Texts.{byte_fault_text, number_fault_text, quoted_text}
 use Rattle.mh_text.specs.Pieces.{lines_from}
 use Rattle.mh_window_pauses.specs.{declared.line.PauseLine.PauseLine, declared.reason.PauseReason.PauseReason}
 use Rattle.mh_window_pauses.specs.Logs.{letters_of_lines, line_as_pause}
@@ -65,15 +66,17 @@ IsPauseReason text n PauseReason.Empty = (n ≡ 1) × (text ≡ [])
 IsPauseReason text n PauseReason.NoNewline = (n ≡ suc (length (cut_after 10 text).pieces)) × ((cut_after 10 text).rest ≢ [])
 IsPauseReason text n r = (begun : Bool) × (line : Text) × StandsAtLine text n begun line × IsLineReason n begun line r
 
--- what a reason is written as, but for one that quotes a word or names a fault
-abbrev pub reason_text : PauseReason → Option Text
-reason_text PauseReason.TooLong = Some (codes "a log has at most 2147483648 bytes")
-reason_text PauseReason.TooManyUnits = Some (codes "the log has 4611686018427387904 units or more")
-reason_text PauseReason.Empty = Some (codes "the log has no bytes")
-reason_text PauseReason.NoNewline = Some (codes "the last line has no newline")
-reason_text PauseReason.Comment = Some (codes "a comment is a line of its own")
-reason_text (PauseReason.History One) = Some (codes "a history of version 1: check reads it")
-reason_text (PauseReason.History Two) = Some (codes "a history: curve --history reads it")
-reason_text PauseReason.Script = Some (codes "a script: curve reads it")
-reason_text PauseReason.NotRun = Some (codes "a line is mutator N or collector N")
-reason_text _ = None
+-- what a reason is written as
+abbrev pub reason_text : PauseReason → Text
+reason_text PauseReason.TooLong = codes "a log has at most 2147483648 bytes"
+reason_text PauseReason.TooManyUnits = codes "the log has 4611686018427387904 units or more"
+reason_text PauseReason.Empty = codes "the log has no bytes"
+reason_text PauseReason.NoNewline = codes "the last line has no newline"
+reason_text PauseReason.Comment = codes "a comment is a line of its own"
+reason_text (PauseReason.Bytes fault) = byte_fault_text fault
+reason_text (PauseReason.History One) = codes "a history of version 1: check reads it"
+reason_text (PauseReason.History Two) = codes "a history: curve --history reads it"
+reason_text PauseReason.Script = codes "a script: curve reads it"
+reason_text (PauseReason.UnknownWord word) = quoted_text word ++ codes " is no word of a log"
+reason_text PauseReason.NotRun = codes "a line is mutator N or collector N"
+reason_text (PauseReason.Number fault) = number_fault_text fault

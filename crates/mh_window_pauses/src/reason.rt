@@ -1,5 +1,4 @@
-//! The reasons of logs of pauses: data, of which contracts speak, and their texts. A text is exact, but for what quotes
-//! a word or names a fault, which is tested.
+//! The reasons of logs of pauses: data, of which contracts speak, and their texts.
 use mh_model::history::Version;
 use mh_reasons::byte_fault::ByteFault;
 use mh_reasons::number_fault::NumberFault;
@@ -33,9 +32,10 @@ pub enum PauseReason {
 }
 
 impl fmt::Display for PauseReason {
+    ghost use Rattle.std.specs.Prelude.{Some};
     ghost use Rattle.mh_window_pauses.specs.Reasons.{reason_text};
 
-    ghost output = { reason_text };
+    ghost output = { λ reason. Some (reason_text reason) };
 
     fn fmt<W: fmt::Write>(&self, f: &mut fmt::Formatter<W>) -> fmt::Result {
         match self {

@@ -59,6 +59,7 @@ fn word_reason(number: u64, begun: bool, first: &[u8], words: Words<'_>) -> Paus
 
 /// What is wrong with a line that is neither blank nor a run. Before it a line that isn't blank has begun the text, or
 /// none has.
+#[tactic(auto, using(crate::proofs::ReasonLemmas::no_number, crate::proofs::ReasonLemmas::of_count, crate::proofs::ReasonLemmas::of_words))]
 fn line_reason(number: u64, begun: bool, line: &[u8]) -> PauseReason
     requires { line_as_pause line.now ≡ None }
     ensures { IsLineReason number begun line.now result }

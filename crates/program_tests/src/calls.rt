@@ -2,7 +2,7 @@
 use crate::cases::AUDIT;
 use crate::comparing::Comparing;
 use crate::live_answers::{answers_to, are_right, has_starved, refused_in};
-use crate::program::{Errors, Silent, launch, line_order, serve, words};
+use crate::program::{Errors, Silent, SystemArguments, launch, line_order, serve, words};
 use mh_text::sink::StdSink;
 use mh_text::source::StdSource;
 use std::alloc::{AllocError, Global};
@@ -91,7 +91,7 @@ fn serve_with<R: Threads + Wait + Sync, W: Write + Drop>(
     errors: &mut Vec<u8>,
 ) -> Result<u8, AllocError> {
     famine.leave(ENOUGH)?;
-    let order = line_order(alloc, words(&Words(call.words), alloc));
+    let order = line_order(alloc, words(&SystemArguments(&Words(call.words)), alloc));
     let mut source = StdSource::new(call.text);
     let mut sink = StdSink::new(output);
     let mut errors = Errors::new(alloc, StdSink::new(errors));

@@ -1,4 +1,5 @@
 //! What tests call of the program, and what it prints while a hook watches its crew or its sessions.
+pub use mh_command_line::arguments::SystemArguments;
 pub use mh_command_line::order::line_order;
 pub use mh_command_line::words::words;
 pub use mh_program::errors::Errors;
@@ -16,21 +17,21 @@ use std::thread::Threads;
 use test_support::environment::Words;
 
 /// What a subcommand prints of a script by so many workers, with status 0.
-pub fn printed<R: Threads + Wait + Sync, G: CrewGate + Sync>(
+pub fn printed<'a, R: Threads + Wait + Sync, G: CrewGate + Sync>(
     rt: &R,
     alloc: Global,
-    subcommand: &str,
-    workers: &str,
+    subcommand: &'a str,
+    workers: &'a str,
     script: &[u8],
     gate: &G,
 ) -> Result<Vec<u8>, Fail> {
-    let line: [&[u8]; 4] = [
+    let line: [&'a [u8]; 4] = [
         b"metroheap",
         subcommand.as_bytes(),
         b"--workers",
         workers.as_bytes(),
     ];
-    let words = words(&Words(&line), alloc);
+    let words = words(&SystemArguments(&Words(&line)), alloc);
     let mut source = StdSource::new(script);
     let mut sink = StdSink::new(Vec::new(alloc));
     let mut errors = Errors::new(alloc, StdSink::new(Vec::new(alloc)));

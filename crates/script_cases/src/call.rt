@@ -24,13 +24,15 @@ impl Drop for Written {
     }
 }
 
-/// The words of a line after the program's own name.
+/// The words of a line after the program's own name. Two quotes are a word of no bytes.
 fn words_of(alloc: Global, line: &[u8]) -> Result<Vec<&[u8]>, AllocError> {
     let mut words = Vec::new(alloc);
     words.push(b"metroheap".as_slice())?;
     for word in line.split(|byte| *byte == b' ') {
-        if !word.is_empty() {
-            words.push(word)?;
+        match word {
+            b"" => {}
+            b"\"\"" => words.push(b"".as_slice())?,
+            _ => words.push(word)?,
         }
     }
     Ok(words)

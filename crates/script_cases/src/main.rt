@@ -8,7 +8,7 @@
 //! |---|---|
 //! | `% list NAME` | the words of a list, one a line, for the cases below |
 //! | `%% TITLE` | begins a case; what is called before the first one is called in each case of the file |
-//! | `% call WORDS` | the program is called with these words on the case's text |
+//! | `% call WORDS` | the program is called with these words on the case's text; `""` is a word of no bytes |
 //! | `% cut WORDS` | it is called on the text cut after each byte, and answers what the lines that are left decide |
 //! | `% spoil LIST WORDS` | it is called on the text with each byte in turn replaced by each byte of a list: the line is refused, but in a comment nothing changes |
 //! | `% alter PART bad LIST WORDS` | it is called on the text, a legal history, with the `reply`, or the units of the `mutator` or of the `collector`, of each entry in turn replaced by each word of a list that differs: the entry is the first that is bad |

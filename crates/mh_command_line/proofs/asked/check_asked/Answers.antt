@@ -9,4 +9,4 @@ returns-then-is_flagged-2-clause-order c =
     let rows = rows_of (found_of c.args.matches.now) in
     let log : is_flagged (codes "log") rows ≡ false = sym c.is_flagged.ensures ∙ c.if-is_flagged.false in
     let sessions : is_flagged (codes "sessions") rows ≡ true = sym c.is_flagged-2.ensures ∙ c.if-is_flagged-2.true in
-    (refl, sessions, log, no_config_of_sessions rows c.requires.meets sessions, record { rules = c.rules_given.ensures; may_be_full = ap not c.is_flagged-then-is_flagged-2.ensures })
+    (refl, sessions, log, no_config_of_sessions rows c.requires.meets sessions, record { rules = c.rules_given-rules.ensures; may_be_full = ap not c.is_flagged-may_be_full.ensures })

@@ -21,13 +21,13 @@ returns-in_err-bad-clause-memory c =
 
 pub loop-timed-preserved : goal.loop-timed-preserved
 loop-timed-preserved c =
-    order_more c.args.rules c.open-watch.result c.open-watch.ensures.rules c.open-watch.ensures.may_be_full c.args.order.now c.loop-timed.timed-index c.timed-item.result c.loop-timed-test.true c.timed-item.is
+    order_more c.args.may_be_full c.args.rules c.open-watch.result c.open-watch.ensures.rules c.open-watch.ensures.may_be_full c.args.order.now c.loop-timed.timed-index c.timed-item.result c.loop-timed-test.true c.timed-item.is
     c.in_ok-reply.reply c.in_ok-reply.ensures _ ((rw c.in_default.is at c.in_ok-bad.ensures.right) c.open-watch.result _ c.loop-timed.invariant)
 
 pub returns-in-Some-clause-wrong : goal.returns-in-Some-clause-wrong
 returns-in-Some-clause-wrong c =
-    order_bad_at c.args.rules c.open-watch.result c.open-watch.ensures.rules c.open-watch.ensures.may_be_full c.args.order.now c.loop-timed.timed-index c.timed-item.result c.loop-timed-test.true c.timed-item.is
+    order_bad_at c.args.may_be_full c.args.rules c.open-watch.result c.open-watch.ensures.rules c.open-watch.ensures.may_be_full c.args.order.now c.loop-timed.timed-index c.timed-item.result c.loop-timed-test.true c.timed-item.is
     c.in_ok-reply.reply c.in_ok-reply.ensures c.in-Some.bad ((rw c.in-Some.is at c.in_ok-bad.ensures.wrong) c.open-watch.result _ c.loop-timed.invariant).0
 
 pub returns-clause-right : goal.returns-clause-right
-returns-clause-right c = order_all c.args.rules c.open-watch.result c.open-watch.ensures.rules c.args.order.now c.loop-timed.timed-index _ c.loop-timed-test.false c.loop-timed.invariant
+returns-clause-right c = order_all c.args.may_be_full c.args.rules c.open-watch.result c.open-watch.ensures.rules c.open-watch.ensures.may_be_full c.args.order.now c.loop-timed.timed-index _ c.loop-timed-test.false c.loop-timed.invariant

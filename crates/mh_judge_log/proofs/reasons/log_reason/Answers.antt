@@ -1,7 +1,7 @@
 use Rattle.std.proofs.{Common.{◌≡◌, ◌==◌, ◌∙◌, ap, false, length, sym, true, arith}, lemmas.Bool.Decides.nat_tests}
 use Rattle.std.proofs.lemmas.List.{nil_from_length}
 use Rattle.mh_text.specs.Pieces.{Lines, TakesLine, lines_from}
-use Rattle.mh_judge_log.proofs.ReasonLemmas.{bad_command, cut_reason, empty_reason, first_reason, long_reason, passed_first, passed_more, told_line}
+use Rattle.mh_judge_log.proofs.ReasonLemmas.{bad_command, cut_reason, empty_reason, told_first, long_reason, passed_first, passed_more, told_line}
 use Rattle.mh_judge_log.proofs.reasons.log_reason.Goals as goal
 
 pub returns-then-text-gt-RECORD_BYTES : goal.returns-then-text-gt-RECORD_BYTES
@@ -21,7 +21,7 @@ returns-in_default c =
 pub returns-then-not-is_word : goal.returns-then-not-is_word
 returns-then-not-is_word c =
     let takes : TakesLine (lines_from 1 c.args.text.now) c.next_line.new.self c.in-Some.field-0-0 c.in-Some.first.now = rw c.new-lines.ensures at c.in-Some.ensures.next in
-    first_reason c.args.text.now c.args.line c.requires c.if-text-gt-RECORD_BYTES.false _ _ _ takes (sym c.is_word.ensures ∙ c.if-not-is_word.true)
+    told_first c.args.text.now c.args.line c.requires c.if-text-gt-RECORD_BYTES.false _ _ _ _ takes (sym c.is_word.ensures ∙ c.if-not-is_word.true) c.first_reason.ensures
 
 pub loop-number-init : goal.loop-number-init
 loop-number-init c =

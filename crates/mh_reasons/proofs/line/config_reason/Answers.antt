@@ -6,7 +6,7 @@ use Rattle.mh_reasons.specs.declared.verb.Verb.{Verb}
 use Rattle.mh_reasons.proofs.line.config_reason.Goals as goal
 
 pub operands_reason-requires : goal.operands_reason-requires
-operands_reason-requires c = config_unfit c.args.words (ap few_numbers (sym c.copy-2.ensures) ∙ c.in_default-numbers.ensures.none)
+operands_reason-requires c = config_unfit c.args.words (ap few_numbers (sym c.copy-3.ensures) ∙ c.in_default-numbers.ensures.none)
 
 pub returns-in_default-numbers : goal.returns-in_default-numbers
 returns-in_default-numbers c = spread Two _ (c.args.first.now ∷ c.args.words) c.args.words Verb.Config _ (config_usage c.args.first.now c.args.words (sym c.if-not-is_word.ensures)) c.operands_reason.ensures
@@ -14,7 +14,7 @@ returns-in_default-numbers c = spread Two _ (c.args.first.now ∷ c.args.words) 
 pub returns-in-len4 : goal.returns-in-len4
 returns-in-len4 c =
     let count : length c.as_slice.result.now ≡ 4 = omega arith in
-    let few : few_numbers c.args.words ≡ Some c.as_slice.result.now = ap few_numbers (sym c.copy-2.ensures) ∙ (c.in-Some-numbers.ensures.some ∙ ap Some (sym c.as_slice.ensures.value)) in
+    let few : few_numbers c.args.words ≡ Some c.as_slice.result.now = ap few_numbers (sym c.copy-3.ensures) ∙ (c.in-Some-numbers.ensures.some ∙ ap Some (sym c.as_slice.ensures.value)) in
     limit c.args.first.now c.args.words c.as_slice.result.now _ c.requires (sym c.if-not-is_word.ensures) few count c.outside_limit.ensures.outside c.outside_limit.ensures.first
 
 pub returns-in_default-as_slice : goal.returns-in_default-as_slice

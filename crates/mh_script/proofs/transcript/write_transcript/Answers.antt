@@ -8,7 +8,8 @@ write_answers-requires g c = record { short = runs_short _ (inr (_, c.in-Ok.ensu
 
 pub returns-in-Ok-write_answers : goal.returns-in-Ok-write_answers
 returns-in-Ok-write_answers g c =
-    transcribed _ _ _ _ (Means _) c.in-Ok.ensures.script c.in-Ok-write_answers.ensures.written (ends-many _ _ c.in-Ok.ensures.script (many_entries _ c.events.result.now c.events.ensures c.if-events-gt-MOST_ANSWERED.true)) tt
+    transcribed _ _ _ _ (Means _) c.in-Ok.ensures.script c.in-Ok-write_answers.ensures.written (ends-many _ _ c.in-Ok.ensures.script (many_entries _ c.events.result.now c.events.ensures c.if-events-gt-MOST_ANSWERED.true))
+    (_, c.in-Ok.ensures.script, c.in-Ok-write_answers.ensures.becomes)
 
 pub returns-in-Ok-2 : goal.returns-in-Ok-2
 returns-in-Ok-2 g c =

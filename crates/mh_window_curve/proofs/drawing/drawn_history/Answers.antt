@@ -11,4 +11,4 @@ returns-in_err-curve-clause-memory c = on_err _ (takes_read (has_read _ _ _ c.in
 pub returns-clause-drawn : goal.returns-clause-drawn
 returns-clause-drawn c =
     let read = has_read _ _ _ c.in-Ok-tally_lines.tally c.in-Ok.ensures.lines c.in-Ok-tally_lines.ensures.tally in
-    (judged_read read c.if-not-tally.false c.in-Ok-tally_lines.ensures.bounded _ _ _ c.in_ok-curve.ensures.kept c.broken_promises-broken.ensures, curve_read read c.if-not-tally.false c.in-Ok-tally_lines.ensures.bounded _ _ c.in_ok-curve.ensures.text)
+    (judged_read read c.if-not-tally.false c.in-Ok-tally_lines.ensures.bounded _ _ _ c.in_ok-curve.ensures.kept c.judge_promises-judgement.ensures, curve_read read c.if-not-tally.false c.in-Ok-tally_lines.ensures.bounded _ _ c.in_ok-curve.ensures.text)

@@ -9,12 +9,12 @@ curve_points-requires g c =
     let P : TraceState → Type 0 = λ trace. length trace.letters < LIFE in
     subst P (sym (c.into_parts-trace.ensures.trace ∙ ap (λ (m : Machine). m.trace) c.in_ok-machine.ensures.machine)) (short_run c.runs_stay_within_their_events.ensures c.args.config c.args.events.now c.requires)
 
-pub broken_promises-broken-requires : goal.broken_promises-broken-requires
-broken_promises-broken-requires g c =
+pub judge_promises-judgement-requires : goal.judge_promises-judgement-requires
+judge_promises-judgement-requires g c =
     let P : TraceState → Type 0 = λ trace. length trace.letters < LIFE in
     subst P (sym (c.into_parts-trace.ensures.trace ∙ ap (λ (m : Machine). m.trace) c.in_ok-machine.ensures.machine)) (short_run c.runs_stay_within_their_events.ensures c.args.config c.args.events.now c.requires)
 
-pub returns-clause-broken : goal.returns-clause-broken
-returns-clause-broken g c =
-    let P : TraceState → Type 0 = λ trace. IsJudged c.args.options.promises trace.letters c.broken_promises-broken.result in
-    subst P (c.into_parts-trace.ensures.trace ∙ ap (λ (m : Machine). m.trace) c.in_ok-machine.ensures.machine) c.broken_promises-broken.ensures
+pub returns-clause-judgement : goal.returns-clause-judgement
+returns-clause-judgement g c =
+    let P : TraceState → Type 0 = λ trace. IsJudged c.args.options.promises trace.letters c.judge_promises-judgement.result in
+    subst P (c.into_parts-trace.ensures.trace ∙ ap (λ (m : Machine). m.trace) c.in_ok-machine.ensures.machine) c.judge_promises-judgement.ensures

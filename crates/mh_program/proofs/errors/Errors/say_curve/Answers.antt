@@ -16,8 +16,8 @@ returns-in-HistoryRefused g c =
 
 pub returns-in-HistoryTooLong : goal.returns-in-HistoryTooLong
 returns-in-HistoryTooLong g c =
-    let P : CurveEnd → Type 0 = λ end. SaysCurve c.args.self.now c.say.new.self end in
-    subst P (sym c.in-HistoryTooLong.is) c.say.ensures
+    let P : CurveEnd → Type 0 = λ end. SaysCurve c.args.self.now c.say-in-HistoryTooLong.new.self end in
+    subst P (sym c.in-HistoryTooLong.is) c.say-in-HistoryTooLong.ensures
 
 pub returns-in-LogRefused : goal.returns-in-LogRefused
 returns-in-LogRefused g c =
