@@ -331,6 +331,10 @@ class Reader:
         want(f"{self.name}: quanta on the strip", str(quanta), str(sum(cycle.quanta for cycle in cycles)))
         self.see_stretches(stretches)
 
+    def wait_address(self, *place):
+        """Waits until the address is that of a place."""
+        self.view.wait_long(f"location.hash === '{self.run.address(*place)}'")
+
     def press_until(self, key, condition):
         self.view.press(key)
         self.view.wait(condition)
@@ -423,7 +427,7 @@ class Reader:
             for place in places[:MOST_FOUND][-2::-1]:
                 self.press_to(key.upper(), *place)
             if places:
-                self.view.wait_address(self.run.address(*places[0]))
+                self.wait_address(*places[0])
                 self.press_until("Home", "document.body.dataset.moment === '0'")
                 self.click_on(f"seek-{name}")
                 self.at(*places[0])
@@ -447,7 +451,7 @@ class Reader:
             self.at(*place)
             says = {"#cycle98765": "no cycle 98765", "#98765": "event 98765 isn't on this page"}.get(address, "")
             self.view.wait(f"document.getElementById('found').textContent === {json.dumps(says)}")
-        self.view.wait_address(self.run.address(*place))
+        self.wait_address(*place)
 
     def try_hands(self):
         """Buttons, sliders, rows, and keys that nothing else presses, from the midst of the run on."""
@@ -510,7 +514,7 @@ class Reader:
         self.press_until("t", f"document.documentElement.dataset.theme === '{theme}'")
         for is_whole in ("true", "false"):
             self.view.press("%")
-            want(f"{self.name}: is the curve's axis whole", self.view.value("String(document.getElementById('to-whole').checked)"), is_whole)
+            self.view.wait_long(f"document.getElementById('to-whole').checked === {is_whole}")
 
     def try_asked(self):
         """The life of the block that a step is about, by its key; of one that is asked for; and of one that isn't there."""
@@ -521,7 +525,7 @@ class Reader:
                 self.view.value(f"location.hash = '#{event}.{number}'")
                 self.at(event, number)
                 self.view.press("b")
-                want(f"{self.name}: whose life is shown at {event}.{number}", self.view.value("document.getElementById('block').value"), f"{birth}.{part}")
+                self.view.wait_long(f"document.getElementById('block').value === '{birth}.{part}'")
         self.view.value("document.getElementById('block').value = '98765.4', document.getElementById('life-form').onsubmit({ preventDefault() {} })")
         self.view.wait("document.getElementById('life').textContent === 'no block 98765.4 is on this page'")
 

@@ -117,7 +117,8 @@ class Browser:
         if part:
             self.value(f"document.getElementById('{part}').focus()")
         code = {"key": key, "code": key, "windowsVirtualKeyCode": KEYS.get(key) or ord(key.upper())}
-        self.send("Input.dispatchKeyEvent", type="rawKeyDown", **code)
+        # An element has its key before it is left.
+        (self.call if part else self.send)("Input.dispatchKeyEvent", type="rawKeyDown", **code)
         self.send("Input.dispatchKeyEvent", type="keyUp", **code)
         if part:
             self.value(f"document.getElementById('{part}').blur()")
@@ -134,9 +135,9 @@ class Browser:
         left, top = self.value(f"(() => {{ const it = document.getElementById('{part}'); {see} const box = it.getBoundingClientRect(); return [box.x, box.y]; }})()")
         self.call("Input.dispatchMouseEvent", type="mouseMoved", x=left + x, y=top + y)
 
-    def wait_address(self, wanted):
-        """Waits until the address ends so."""
-        self.value(f"new Promise((done) => {{ const see = () => location.hash === '{wanted}' ? done() : setTimeout(see, 20); see(); }})")
+    def wait_long(self, condition):
+        """Waits until a condition holds of which no attribute and no text shows when it does."""
+        self.value(f"new Promise((done) => {{ const see = () => {condition} ? done() : setTimeout(see, 20); see(); }})")
 
     def size(self, width, height, scale=1):
         self.call("Emulation.setDeviceMetricsOverride", width=width, height=height, deviceScaleFactor=scale, mobile=False)
@@ -246,10 +247,10 @@ class Node:
         self.last = f"hovering over {part}"
         self.ask("point", "onmousemove", part, x, y)
 
-    def wait_address(self, wanted):
-        """Lets timers run, after which the address is to end so."""
+    def wait_long(self, condition):
+        """Lets timers run, after which the condition is to hold."""
         self.ask("elapse")
-        self.wait(f"location.hash === '{wanted}'")
+        self.wait(condition)
 
     def size(self, width, height, scale=1):
         self.ask("size", width - MARGIN)

@@ -1,6 +1,6 @@
 //! Tests of calls that the program doesn't make, or of what its output doesn't show: words of pages, roots, heaps that never
-//! collect, runs and judges in memory, machines that forget, and random scripts; crews, locks and services in several
-//! threads; and what each part does when memory is refused to it. What texts show is in `script_cases`.
+//! collect, runs and judges in memory, and machines that forget; crews, locks and services in several threads; and what
+//! each part does when memory is refused to it. What texts show is in `script_cases`.
 //!
 //! They are one crate, since most of what a crate of tests costs is building all that it stands on.
 #![tactic(auto)]
@@ -9,8 +9,6 @@
 mod answers;
 #[cfg(test)]
 mod asked;
-#[cfg(test)]
-mod bytes_tests;
 #[cfg(test)]
 mod called;
 #[cfg(test)]
@@ -28,15 +26,11 @@ mod lock_tests;
 #[cfg(test)]
 mod marks;
 #[cfg(test)]
-mod mix_tests;
-#[cfg(test)]
 mod opening_tests;
 #[cfg(test)]
 mod page_tests;
 #[cfg(test)]
 mod plain_tests;
-#[cfg(test)]
-mod random_scripts;
 #[cfg(test)]
 mod reply_tests;
 #[cfg(test)]

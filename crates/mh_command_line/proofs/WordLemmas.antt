@@ -1,10 +1,10 @@
 -- Words that are read one by one.
-use Rattle.std.proofs.Common.{◌≡◌, ◌∙◌, ℕ, ◌+◌, ◌<◌, ◌≤◌, List, [], ◌∷◌, ◌++◌, codes, drop, get_or, length, slice_get, take, ap, arith, inl, inr, refl, sym}
+use Rattle.std.proofs.Common.{◌≡◌, ◌∙◌, ℕ, ◌+◌, ◌<◌, ◌≤◌, List, [], ◌∷◌, ◌++◌, codes, drop, length, take, ap, arith, inl, inr, sym}
 use Rattle.std.proofs.lemmas.List.{drop-append-le, length-take-le, take_all, take_more}
 use Rattle.std.proofs.lemmas.Option.{get_or_from_slice_get, slice_get_cases, slice_get_within}
-use Rattle.std.specs.Prelude.{Option, Some, None}
+use Rattle.std.specs.Prelude.{IsUtf8, Option, Some, None}
 use Rattle.mh_model.specs.Bytes.{Text}
-use Rattle.mh_command_line.specs.{Arguments.AreWords, Auxiliary.{AreRead, IsArgument}}
+use Rattle.mh_command_line.specs.{Arguments.{AreWords, HasNoText}, Auxiliary.{AreRead, IsArgument}}
 
 pub none_read : (known : Option (List Text)) (words : List Text) → words ≡ codes "metroheap" ∷ [] → AreRead known 1 words
 none_read None words is = tt
@@ -25,3 +25,7 @@ all_read (Some known) index words are is = elim (slice_get_cases known index).1 
   | inl found ↦ let some : Some found.0 ≡ None = sym found.2 ∙ is in absurd cc
   | inr past ↦ are ∙ ap (λ ws. codes "metroheap" ∷ drop 1 ws) (take_all index known past.0)
 ]
+
+pub no_text : (known : Option (List Text)) (index : ℕ) (bytes : Text) → 0 < index → IsArgument known index (Some bytes) → ¬ IsUtf8 bytes → HasNoText known
+no_text None index bytes some is other = tt
+no_text (Some known) index bytes some is other = (index, bytes, some, is, other)

@@ -1,5 +1,5 @@
 -- The words of a command line, and what is read of them.
-use Rattle.std.specs.Prelude.{◌≡◌, ℕ, ◌<◌, ◌≤◌, Option, Some, None, List, ◌∷◌, Result, Ok, Err, codes, drop, length, slice_get, take}
+use Rattle.std.specs.Prelude.{◌≡◌, ℕ, ◌<◌, ◌≤◌, Option, Some, None, List, ◌∷◌, Result, Ok, Err, IsUtf8, codes, drop, length, slice_get, take}
 use Rattle.std.specs.{declared.env.FillError.FillError, declared.env.FillError.TheVariants.{NotPresent, TooLong}}
 use Rattle.mh_model.specs.Bytes.{Text}
 
@@ -14,3 +14,8 @@ IsAnswered (Some words) index buffer (Err TooLong) = (word : Text) × (slice_get
 abbrev pub AreWords : Option (List Text) → List Text → Type 0
 AreWords None words = Unit {0}
 AreWords (Some known) words = words ≡ codes "metroheap" ∷ drop 1 known
+
+-- one of the words after the program's own name isn't text, if the words are known
+abbrev pub HasNoText : Option (List Text) → Type 0
+HasNoText None = Unit {0}
+HasNoText (Some known) = (index : ℕ) × (word : Text) × (0 < index) × (slice_get known index ≡ Some word) × ¬ IsUtf8 word

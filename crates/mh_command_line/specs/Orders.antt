@@ -22,7 +22,7 @@ use Rattle.mh_model.specs.{declared.config.Rules.Rules, declared.config.Rules.Th
 use Rattle.mh_model.specs.Limits.{least_quantum}
 use Rattle.mh_command_line.specs.declared.fault.LineFault.{LineFault}
 use Rattle.mh_command_line.specs.declared.fault.LineFault.TheVariants.{Words, NotText, Configuration, NoMemory}
-use Rattle.mh_command_line.specs.{declared.table.Rule.Rule, Curves.AreCurveOptions}
+use Rattle.mh_command_line.specs.{declared.table.Rule.Rule, Arguments.HasNoText, Curves.AreCurveOptions}
 use Rattle.mh_command_line.specs.Sizes.{AreRoomOptions, AreScriptOptions, AreTargetOptions}
 use Rattle.mh_command_line.specs.Table.{AllPass, OptionRule, metroheap, table}
 use Rattle.mh_command_line.specs.Values.{HasNumber, IsConfigOption, LacksNumber, breaks, is_flagged, number_or, optional_number, rules_chosen, rules_given, workers_of}
@@ -262,11 +262,11 @@ IsFault words NotText = ⊥
 IsFault words (Configuration option) = AskAmiss words (λ name rows. IsOutside name rows option)
 IsFault words NoMemory = Unit {0}
 
--- what may be wrong with words that can't be read: one isn't text, or memory was refused
-abbrev pub IsUnread : LineFault → Type 0
-IsUnread NotText = Unit {0}
-IsUnread NoMemory = Unit {0}
-IsUnread fault = ⊥
+-- what may be wrong with words that can't be read, by those that are known: one isn't text, or memory was refused
+abbrev pub IsUnread : Option (List Text) → LineFault → Type 0
+IsUnread known NotText = HasNoText known
+IsUnread known NoMemory = Unit {0}
+IsUnread known fault = ⊥
 
 -- what words give: an order, or a fault
 abbrev pub OrdersBy : List Text → Result Order LineFault → Type 0

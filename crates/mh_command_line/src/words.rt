@@ -1,8 +1,8 @@
 //! The words of the command line as the system has them.
 //!
-//! Words that can't be read are refused as not text, or with out of memory. Not text is a word after the program's
-//! own name that isn't UTF-8. That name may be any bytes, since help and usage say `metroheap`.
-ghost use Rattle.std.specs.{Prelude.{IfErr, IfOk, map, option_map}, String.string_bytes};
+//! Words that can't be read are refused as not text, or with out of memory. They are refused as not text only if a word
+//! after the program's own name isn't UTF-8. That name may be any bytes, since help and usage say `metroheap`.
+ghost use Rattle.std.specs.{Prelude.{◌<◌, IfErr, IfOk, map, option_map}, String.string_bytes};
 ghost use Rattle.mh_command_line.specs.{Arguments.AreWords, Auxiliary.IsArgument, Orders.IsUnread};
 
 use crate::arguments::Arguments;
@@ -40,13 +40,15 @@ fn bytes_of<A: Arguments>(
     Err(AllocError)
 }
 
+#[tactic(auto, using(crate::proofs::WordLemmas::no_text))]
 fn word<A: Arguments>(
     arguments: &A,
     alloc: Global,
     index: usize,
 ) -> Result<Option<String>, LineFault>
+    requires { 0 < index }
     ensures word { IfOk result (λ found. IsArgument (A.known arguments.now) index (option_map string_bytes found)) }
-    ensures unread { IfErr result IsUnread }
+    ensures unread { IfErr result (IsUnread (A.known arguments.now)) }
 {
     match bytes_of(arguments, alloc, index) {
         Ok(Some(bytes)) => match String::from_utf8(bytes) {
@@ -61,7 +63,7 @@ fn word<A: Arguments>(
 /// The words of the command line. The first is the program's own name, for which the system may have any bytes.
 pub fn words<A: Arguments>(arguments: &A, alloc: Global) -> Result<Vec<String>, LineFault>
     ensures words { IfOk result (λ words. AreWords (A.known arguments.now) (map string_bytes words.items)) }
-    ensures unread { IfErr result IsUnread }
+    ensures unread { IfErr result (IsUnread (A.known arguments.now)) }
 {
     let mut words = Vec::new(alloc);
     let Ok(name) = NAME.to_string(alloc) else {

@@ -6,6 +6,7 @@ use Rattle.mh_model.specs.{Bytes.Text, Machine.{control_step, report_on}, Replie
 use Rattle.mh_model.specs.{declared.reply.Refusal.TheVariants.HeapFull, World.{IsNew, world_step}}
 use Rattle.mh_run_laws.specs.Forgetting.{KeepsPromise}
 use Rattle.mh_reasons.specs.{declared.reason.LineReason.LineReason, Reasons.{IsLineReason, IsWrong}}
+use Rattle.mh_reasons.specs.Texts.{line_reason_text}
 use Rattle.mh_live.specs.Promised.{line_event, names_after}
 use Rattle.mh_embed.specs.{declared.driver.Driver.Driver, declared.driver.Driver.TheVariants.{Collects, Grows}}
 use Rattle.mh_embed.specs.{declared.numbers.DeedNumbers.DeedNumbers, declared.numbers.EventNumbers.EventNumbers}
@@ -46,9 +47,9 @@ pub data AnswerEnds (old : Driven) (line : script.Line) (new : Driven) (out out'
   Answered : (ends : Status) → LineEnds old line new Status.Done → TextEnds new.reply out out' written ends → AnswerEnds old line new out out' written ends
   Undone : (ends : Status) → ends ≢ Status.Done → LineEnds old line new ends → out' ≡ out → written ≡ 0 → AnswerEnds old line new out out' written ends
 
--- What is wrong with a line is asked for: some text of a reason that is true of it, if it is outside the grammar. Memory may be refused for the text
+-- What is wrong with a line is asked for: the text of a reason that is true of it, if it is outside the grammar. Memory may be refused for the text
 pub data ReasonEnds (line out out' : Text) (written : ℕ) : Status → Type 0 where
-  Reasoned : (reason : LineReason) (text : Text) (ends : Status) → IsWrong true line → IsLineReason true line reason → IsGiven text out out' written ends → ReasonEnds line out out' written ends
+  Reasoned : (reason : LineReason) (ends : Status) → IsWrong true line → IsLineReason true line reason → IsGiven (line_reason_text reason) out out' written ends → ReasonEnds line out out' written ends
   BlankLine : script.line_of line ≡ script.Blank → out' ≡ out → written ≡ 0 → ReasonEnds line out out' written Status.Blank
   IsEvent : script.line_of line ≢ script.Blank → script.line_of line ≢ script.Wrong → out' ≡ out → written ≡ 0 → ReasonEnds line out out' written Status.NoItem
   NoReason : IsWrong true line → out' ≡ out → written ≡ 0 → ReasonEnds line out out' written Status.NoText

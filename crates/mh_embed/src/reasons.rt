@@ -1,7 +1,7 @@
-//! Why a line is no event, as `metroheap live` says it. The reason is true of the line. Its words are fixed by tests
-//! alone.
-ghost use Rattle.std.specs.Prelude.{◌≡◌};
+//! Why a line is no event, as `metroheap live` says it: the text of a reason that is true of the line.
+ghost use Rattle.std.specs.{Prelude.{◌≡◌, IfOk}, String.string_bytes};
 ghost use Rattle.mh_embed.specs.Endings.{ReasonEnds};
+ghost use Rattle.mh_reasons.specs.Texts.{line_reason_text};
 
 use crate::replied::give;
 use crate::status::Status;
@@ -12,7 +12,9 @@ use mh_text::line::{Line, line_of};
 use std::alloc::Global;
 use std::fmt::Write;
 
-fn text_of(alloc: Global, reason: &LineReason) -> Result<String, NoMemory> {
+fn text_of(alloc: Global, reason: &LineReason) -> Result<String, NoMemory>
+    ensures { IfOk result (λ text. string_bytes text ≡ line_reason_text reason.now) }
+{
     let mut text = String::new(alloc);
     write!(text, "{reason}")?;
     Ok(text)

@@ -16,6 +16,9 @@ use Rattle.mh_judge_log.specs.Reasons.{IsFirstReason, IsLaterLine, IsLineReason,
 use Rattle.mh_judge_log.proofs.LogLemmas.{command_bad, command_taken, log_empty, log_ended, log_first, log_long, log_wrong, order_begun}
 use Rattle.mh_judge_log.proofs.{OrderLemmas.{line_bad, line_takes}, TimedLemmas.some_entry}
 
+pub has_times : {line : List Text} {begin end : ℕ} {rest : List Text} {first second : Text} → line ≡ first ∷ second ∷ rest → Some begin ≡ number first → Some end ≡ number second → HasTimes line begin end rest
+has_times is begins ends = record { first = _; second = _; is = is; begins = sym begins; ends = sym ends }
+
 -- what isn't a command, has times in order and is no control's, has no entry after the times
 pub lacks_entry : (line rest : List Text) (begin end : ℕ) → HasTimes line begin end rest → begin ≤ end → begins_with_star rest ≡ false → timed_of line ≡ None → entry_of One rest ≡ None
 lacks_entry line rest begin end has ordered star none = by (entry_of One rest) refl where

@@ -4,4 +4,5 @@ pub mod FeedLemmas
 pub mod LineTurns
 pub mod PromiseLemmas
 pub mod RunAnswers
+pub mod TalkLemmas
 pub mod WorldLemmas

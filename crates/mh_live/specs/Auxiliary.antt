@@ -7,9 +7,7 @@ use Rattle.mh_model.specs.{Replies.reply_text, World.{IsNew, never_full, refusal
 use Rattle.mh_machine.specs.Running.{Running, Does, MayAskForMemory}
 use Rattle.mh_live.specs.{Worlds.{Grown, Growing}, Answers.{starved_line, full_line}, declared.feed.Feed.Feed}
 use Rattle.mh_live.specs.Heard.{AreHeard, IsHeard}
-use Rattle.mh_text.specs.Devices.{Device}
-use Rattle.mh_script.specs.declared.{end.LineRefusal.LineRefusal, fault.ScriptFault.TheVariants.NoMemory}
-use Rattle.mh_script.specs.declared.fault.WriteError.{WriteError}
+use Rattle.mh_script.specs.declared.{end.LineRefusal.LineRefusal, fault.WriteError.WriteError}
 use Rattle.mh_reasons.specs.declared.reason.{LineReason.LineReason, ScriptReason.TheVariants.Line}
 
 abbrev pub uncollected_line : Text

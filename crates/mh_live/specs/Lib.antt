@@ -3,6 +3,7 @@ pub mod Feeding
 pub mod Heard
 pub mod Laws
 pub mod Promised
+pub mod Talks
 pub mod Worlds
 pub mod AuxiliaryViews
 pub mod Auxiliary

@@ -1,7 +1,7 @@
 //! Lines that are read from a source as they come.
 //!
-//! Those whose ends have come are answered before more bytes are read. That is seen in the code alone, and a test from
-//! another process shows it. At the end of the source each line was answered, and a last line without its end was
+//! Those whose ends have come are answered before more bytes are read: no client is read on sooner (`prompt` of its
+//! `read`). At the end of the source each line was answered, and a last line without its end was
 //! refused. Whatever ends it earlier leaves the answers to the first lines, or a prefix of these. A failed read leaves
 //! each whole line answered that came before it (`prompt`). A device failed exactly when it is blamed. The run ends
 //! with out of memory only if the source gave some byte (`memory`). It ends so if memory is refused for the bytes of a
@@ -21,10 +21,11 @@ ghost use Rattle.mh_model.specs.{Bytes.Text, Live.{Waits, unended_text}};
 ghost use Rattle.mh_text.specs.Devices.{Fails, GivesSome, Works};
 ghost use Rattle.mh_live.specs.Feeding.{AnswersAll, AnswersFront, AnswersSome, AnswersWhole, Blames, KeepsLivePromise};
 ghost use Rattle.mh_live.specs.Auxiliary.{IsFed, MayBegin, TakesTurn, TurnsPartly, WritesPrefix, HeardRefusal, refusal_of};
-ghost use Rattle.mh_live.specs.Heard.{unended_refusal};
+ghost use Rattle.mh_live.specs.{Heard.unended_refusal, Talks.IsSilent};
 ghost use Rattle.mh_model.specs.Live as model;
 
 use crate::answer::refused;
+use crate::client::Client;
 use crate::listener::Listener;
 use crate::live::Live;
 use mh_promise::promise::replies_are_promised;
@@ -35,7 +36,6 @@ use mh_script::end::LineRefusal;
 use mh_script::fault::{ScriptFault, WriteError};
 use mh_text::pieces::split_at_byte;
 use mh_text::sink::Sink;
-use mh_text::source::Source;
 use mh_text::stream::write_text;
 use std::alloc::Global;
 use std::thread::Threads;
@@ -168,35 +168,36 @@ impl Feed {
     }
 }
 
-/// Reads lines to the end of the source, for a run that has answered none. Those whose ends have come are answered before
+/// Reads lines to the end of what a client sends, for a run that has answered none. Those whose ends have come are answered before
 /// more bytes are read. The listener hears of a line outside the grammar after its answer was written, and before the next line is answered. At most `workers`
 /// threads scan at a time. Neither their number nor the hook changes an answer.
-pub fn run_live<R: Threads, S: Source, W: Sink, L: Listener, G: CrewGate>(
+pub fn run_live<R: Threads, C: Client, W: Sink, L: Listener, G: CrewGate>(
     rt: &R,
     alloc: Global,
     live: Live,
-    source: &mut S,
+    client: &mut C,
     sink: &mut W,
     listener: &mut L,
     workers: usize,
     gate: &G,
 ) -> Result<(), ScriptFault>
     requires workers { (0 < workers) × (workers ≤ 64) }
-    ensures promise { live ≡ Waits → KeepsLivePromise (S.device source.old).bytes (S.device source.new).bytes (W.device sink.old).bytes (W.device sink.new).bytes result }
-    ensures answered { OnOk result (AnswersAll live (λ refusals. L.hears listener.old refusals listener.new) (S.device source.old).bytes (S.device source.new).bytes (W.device sink.old).bytes (W.device sink.new).bytes) }
-    ensures begun { IfErr result (AnswersFront live (λ refusals. L.hears listener.old refusals listener.new) (S.device source.old).bytes (S.device source.new).bytes (W.device sink.old).bytes (W.device sink.new).bytes) }
-    ensures prompt { IsErrOf result ScriptFault.Read → AnswersWhole live (λ refusals. L.hears listener.old refusals listener.new) (S.device source.old).bytes (S.device source.new).bytes (W.device sink.old).bytes (W.device sink.new).bytes }
+    requires silent { IsSilent (C.talk client.old) live (W.device sink.old).bytes }
+    ensures promise { live ≡ Waits → KeepsLivePromise (C.device client.old).bytes (C.device client.new).bytes (W.device sink.old).bytes (W.device sink.new).bytes result }
+    ensures answered { OnOk result (AnswersAll live (λ refusals. L.hears listener.old refusals listener.new) (C.device client.old).bytes (C.device client.new).bytes (W.device sink.old).bytes (W.device sink.new).bytes) }
+    ensures begun { IfErr result (AnswersFront live (λ refusals. L.hears listener.old refusals listener.new) (C.device client.old).bytes (C.device client.new).bytes (W.device sink.old).bytes (W.device sink.new).bytes) }
+    ensures prompt { IsErrOf result ScriptFault.Read → AnswersWhole live (λ refusals. L.hears listener.old refusals listener.new) (C.device client.old).bytes (C.device client.new).bytes (W.device sink.old).bytes (W.device sink.new).bytes }
 
-    // Memory is taken only for bytes that the source gave.
-    ensures memory { IsErrOf result ScriptFault.NoMemory → GivesSome (S.device source.old) (S.device source.new) }
-    ensures blames { Blames (S.device source.old) (S.device source.new) (W.device sink.old) (W.device sink.new) result }
+    // Memory is taken only for bytes that the client sent.
+    ensures memory { IsErrOf result ScriptFault.NoMemory → GivesSome (C.device client.old) (C.device client.new) }
+    ensures blames { Blames (C.device client.old) (C.device client.new) (W.device sink.old) (W.device sink.new) result }
 {
     replies_are_promised();
     let mut scanner = CrewScan::new(rt, alloc, workers, gate);
     let mut feed = Feed::new(alloc, live);
     let mut chunk = [0u8; CHUNK];
     for _ in 0..u64::MAX {
-        let Ok(count) = source.read(&mut chunk) else {
+        let Ok(count) = client.read(&mut chunk, sink) else {
             return Err(ScriptFault::Read);
         };
         if count == 0 {

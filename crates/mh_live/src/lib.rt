@@ -7,6 +7,7 @@
 #![tactic(auto)]
 
 mod answer;
+pub mod client;
 pub mod feed;
 pub mod growing;
 pub mod laws;

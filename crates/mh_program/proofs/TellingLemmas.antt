@@ -1,7 +1,7 @@
 -- What standard error gets of texts that quote an input.
 use Rattle.std.specs.Prelude.{Option, Some, None, IfSome, Result, Ok, Err, IfOk, MatchResult}
 use Rattle.std.proofs.Common.{◌≡◌, [], ◌∷◌, ◌++◌, append_assoc, subst, sym}
-use Rattle.mh_model.specs.Bytes.{Text}
+use Rattle.mh_model.specs.Bytes.{Text, line_text}
 use Rattle.mh_program.specs.Complaints.{ErrorStream, Quoted, Says, SaysFound, SaysQuoted, Unquoted}
 
 -- a text of this kind was told, or the other if there was no memory for it
@@ -9,6 +9,12 @@ pub quotes : {T E : Type 0} (old new : ErrorStream) (Is : Text → Type 0) (othe
     → SaysQuoted old new Is other
 quotes old new Is other bytes (Ok t) is told = Quoted (bytes t) is told
 quotes old new Is other bytes (Err e) is told = Unquoted told
+
+-- a complaint of what is shown so, if that is known, was told, or the other text
+pub complains : {T E : Type 0} (old new : ErrorStream) (output : Option Text) (place other : Text) (bytes : T → Text) (text : Result T E) → IfOk text (λ t. IfSome output (λ said. bytes t ≡ place ++ line_text said))
+    → MatchResult text (λ t. Says old new (bytes t)) (λ _. Says old new other) → IfSome output (λ said. SaysQuoted old new (λ t. t ≡ place ++ line_text said) other)
+complains old new None place other bytes text is told = tt
+complains old new (Some said) place other bytes text is told = quotes old new (λ t. t ≡ place ++ line_text said) other bytes text is told
 
 -- a text that shows what is to be said, if that is known, holds of it
 pub shown : (output : Option Text) (what : Text) (Is : Text → Type 0) → IfSome output (λ said. what ≡ said) → Is what → IfSome output Is

@@ -1,5 +1,5 @@
 -- What the program tells on standard error.
-use Rattle.std.specs.Prelude.{◌≡◌, ℕ, ◌+◌, ◌-◌, ◌<◌, nat_lt, if◌then◌else◌, Bool, true, false, Option, List, [], ◌∷◌, ◌++◌, Result, Ok, Err, codes, decimal, MatchOption}
+use Rattle.std.specs.Prelude.{◌≡◌, ℕ, ◌+◌, ◌-◌, nat_lt, if◌then◌else◌, Bool, true, false, Option, List, [], ◌∷◌, ◌++◌, Result, Ok, Err, codes, decimal, MatchOption}
 use Rattle.mh_window_curve.specs.declared.{end.CurveEnd.CurveEnd, promises.LongPause.LongPause}
 use Rattle.mh_window_curve.specs.declared.promises.PromiseJudgement.{PromiseJudgement}
 use Rattle.mh_window_curve.specs.declared.{promises.ShortStretch.ShortStretch, promises.Untried.Untried}
@@ -18,6 +18,7 @@ use Rattle.mh_script.specs.declared.{end.End.End, end.End.TheVariants.{Done, Ref
 use Rattle.mh_script.specs.declared.fault.ScriptFault.{ScriptFault}
 use Rattle.mh_script.specs.declared.fault.ScriptFault.TheVariants.{Read, Write, NoMemory, HistoryFull}
 use Rattle.mh_size_text.specs.declared.end.SizeEnd.{SizeEnd}
+use Rattle.mh_program.specs.declared.complaints.Place.{Place}
 use Rattle.mh_text.specs.Devices.{Device, FailsAt, Takes}
 use Rattle.mh_reasons.specs.declared.history_reason.HistoryReason.{HistoryReason}
 use Rattle.mh_reasons.specs.Texts.{history_reason_text, script_reason_text}
@@ -71,6 +72,11 @@ entry_place number = codes "metroheap: line " ++ decimal (number + 1) ++ codes "
 -- and one of an entry of an order
 abbrev pub order_place : ℕ → Text
 order_place number = codes "metroheap: entry " ++ decimal number ++ codes " of the order: "
+
+abbrev pub place_text : Place → Text
+place_text (Place.Line line) = line_place line
+place_text (Place.Entry number) = entry_place number
+place_text (Place.Order number) = order_place number
 
 -- what is said of a history that is refused, of which the entries were judged by what sessions see. The whole lines of one that was cut off were judged
 abbrev pub seen_reason_text : ℕ → HistoryReason → Text

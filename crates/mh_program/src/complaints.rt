@@ -6,7 +6,7 @@
 ghost use Rattle.std.specs.Prelude.{◌≡◌, ◌+◌, ◌++◌, IfOk, IfSome, MatchResult, Some};
 ghost use Rattle.mh_model.specs.Bytes.{line_text};
 ghost use Rattle.mh_command_line.specs.Printable.{IsPrintable};
-ghost use Rattle.mh_program.specs.Complaints.{More, None, Says, SaysCounts, SaysCurve, SaysEnd, SaysFound, SaysJudgement, SaysLine, SaysLog, SaysLogJudgement, SaysPromises, SaysRefusal, SaysRefusals, SaysSeen, SaysSeenJudgement, SaysSized, SaysTally, SaysWords, counts_text, entry_place, fault_text, floor_text, line_place, order_place, outside_text, pause_text, seen_reason_text, stretch_text, tally_text, untried_floor_text, untried_pause_text, untried_stretch_text};
+ghost use Rattle.mh_program.specs.Complaints.{More, None, Says, SaysCounts, SaysCurve, SaysEnd, SaysFound, SaysJudgement, SaysLine, SaysLog, SaysLogJudgement, SaysPromises, SaysQuoted, SaysRefusal, SaysRefusals, SaysSeen, SaysSeenJudgement, SaysSized, SaysTally, SaysWords, counts_text, fault_text, floor_text, outside_text, pause_text, place_text, seen_reason_text, stretch_text, tally_text, untried_floor_text, untried_pause_text, untried_stretch_text};
 
 use crate::errors::Errors;
 use arrayvec::ArrayString;
@@ -39,6 +39,15 @@ const TALLY_BYTES: usize = 128;
 /// The most bytes of the line of a promise that isn't kept.
 const PROMISE_BYTES: usize = 256;
 
+// Lines for complaints without memory for them.
+const SCRIPT_REFUSED: &[u8] = b"metroheap: the script is outside the grammar\n";
+
+const HISTORY_REFUSED: &[u8] = b"metroheap: the history is outside the grammar\n";
+
+const LOG_REFUSED: &[u8] = b"metroheap: the log is outside the grammar\n";
+
+const BAD_ENTRY: &[u8] = b"metroheap: an entry is bad\n";
+
 /// The line that names a fault of a run.
 pub(crate) fn fault_line(fault: ScriptFault) -> &'static [u8]
     ensures { result.now ≡ line_text (fault_text fault) }
@@ -65,48 +74,37 @@ fn outside_line(option: ConfigOption) -> &'static [u8]
     }
 }
 
-/// The line that says what is wrong with a line of the input.
-fn line_complaint<T: fmt::Display>(
-    alloc: Global,
-    line: u64,
-    what: &T,
-) -> Result<Vec<u8>, AllocError>
-    ensures { IfOk result (λ text. IfSome (T.output what.now) (λ said. text.items ≡ line_place line ++ line_text said)) }
-{
-    let what = format!(in alloc; "{what}")?;
-    let text = format!(in alloc; "metroheap: line {line}: {what}\n")?;
-    Ok(text.into_bytes())
+/// Where something is wrong.
+#[derive(Clone, Copy)]
+enum Place {
+    Line(u64),
+    /// An entry of a history. Entries begin at line 2.
+    Entry(u64),
+    /// An entry of the order of a log.
+    Order(u64),
 }
 
-/// The line of an entry. Entries begin at line 2.
-fn line_of_entry(number: u64) -> u128
-    ensures { result ≡ number + 1 }
-{
-    u128::from(number) + 1
+impl fmt::Display for Place {
+    ghost output = { λ place. Some (place_text place) };
+
+    fn fmt<W: fmt::Write>(&self, f: &mut fmt::Formatter<W>) -> fmt::Result {
+        match *self {
+            Place::Line(line) => write!(f, "metroheap: line {line}: "),
+            Place::Entry(number) => {
+                let line = u128::from(number) + 1;
+                write!(f, "metroheap: line {line}, entry {number}: ")
+            }
+            Place::Order(number) => write!(f, "metroheap: entry {number} of the order: "),
+        }
+    }
 }
 
-fn entry_complaint<T: fmt::Display>(
-    alloc: Global,
-    number: u64,
-    what: &T,
-) -> Result<Vec<u8>, AllocError>
-    ensures { IfOk result (λ text. IfSome (T.output what.now) (λ said. text.items ≡ entry_place number ++ line_text said)) }
+/// The line that says where something is wrong, and what.
+fn complaint<T: fmt::Display>(alloc: Global, place: Place, what: &T) -> Result<Vec<u8>, AllocError>
+    ensures { IfOk result (λ text. IfSome (T.output what.now) (λ said. text.items ≡ place_text place ++ line_text said)) }
 {
     let what = format!(in alloc; "{what}")?;
-    let line = line_of_entry(number);
-    let text = format!(in alloc; "metroheap: line {line}, entry {number}: {what}\n")?;
-    Ok(text.into_bytes())
-}
-
-fn order_complaint<T: fmt::Display>(
-    alloc: Global,
-    number: u64,
-    what: &T,
-) -> Result<Vec<u8>, AllocError>
-    ensures { IfOk result (λ text. IfSome (T.output what.now) (λ said. text.items ≡ order_place number ++ line_text said)) }
-{
-    let what = format!(in alloc; "{what}")?;
-    let text = format!(in alloc; "metroheap: entry {number} of the order: {what}\n")?;
+    let text = format!(in alloc; "{place}{what}\n")?;
     Ok(text.into_bytes())
 }
 
@@ -274,6 +272,14 @@ impl<E: Sink> Errors<E> {
         }
     }
 
+    /// Says where something is wrong and what, or another text if there was no memory for that.
+    fn say_complaint<T: fmt::Display>(&mut self, place: Place, what: &T, other: &[u8])
+        ensures { IfSome (T.output what.now) (λ said. SaysQuoted self.old self.new (λ text. text ≡ place_text place ++ line_text said) other.now) }
+    {
+        let text = complaint(self.alloc(), place, what);
+        self.say_quoted(text, other);
+    }
+
     /// Says what `clap` says of words, or if there is no memory for that, that they are bad.
     fn say_words(&mut self, error: &clap::Error)
         ensures { SaysWords self.old self.new }
@@ -298,8 +304,7 @@ impl<E: Sink> Errors<E> {
     pub(crate) fn say_refusal(&mut self, refusal: &LineRefusal)
         ensures { SaysRefusal self.old self.new refusal.now }
     {
-        let text = line_complaint(self.alloc(), refusal.line, &refusal.reason);
-        self.say_quoted(text, b"metroheap: the script is outside the grammar\n");
+        self.say_complaint(Place::Line(refusal.line), &refusal.reason, SCRIPT_REFUSED);
     }
 
     /// Says why a run or a race was refused, if it was.
@@ -328,12 +333,10 @@ impl<E: Sink> Errors<E> {
         match judgement {
             Judgement::Legal(_) => {}
             Judgement::Refused { line, reason } => {
-                let text = line_complaint(self.alloc(), *line, reason);
-                self.say_quoted(text, b"metroheap: the history is outside the grammar\n");
+                self.say_complaint(Place::Line(*line), reason, HISTORY_REFUSED);
             }
             Judgement::FirstBad { number, fault } => {
-                let text = entry_complaint(self.alloc(), *number, fault);
-                self.say_quoted(text, b"metroheap: an entry is bad\n");
+                self.say_complaint(Place::Entry(*number), fault, BAD_ENTRY);
             }
         }
     }
@@ -347,8 +350,7 @@ impl<E: Sink> Errors<E> {
                     line: *line,
                     reason,
                 };
-                let text = line_complaint(self.alloc(), *line, &refusal);
-                self.say_quoted(text, b"metroheap: the history is outside the grammar\n");
+                self.say_complaint(Place::Line(*line), &refusal, HISTORY_REFUSED);
             }
             _ => self.say_judgement(judgement),
         }
@@ -376,12 +378,10 @@ impl<E: Sink> Errors<E> {
         match judgement {
             Judgement::Legal(_) => {}
             Judgement::Refused { line, reason } => {
-                let text = line_complaint(self.alloc(), *line, reason);
-                self.say_quoted(text, b"metroheap: the log is outside the grammar\n");
+                self.say_complaint(Place::Line(*line), reason, LOG_REFUSED);
             }
             Judgement::FirstBad { number, fault } => {
-                let text = order_complaint(self.alloc(), *number, fault);
-                self.say_quoted(text, b"metroheap: an entry is bad\n");
+                self.say_complaint(Place::Order(*number), fault, BAD_ENTRY);
             }
         }
     }
@@ -487,8 +487,7 @@ impl<E: Sink> Errors<E> {
             }
             CurveEnd::ScriptRefused(refusal) => self.say_refusal(refusal),
             CurveEnd::HistoryRefused { line, reason } => {
-                let text = line_complaint(self.alloc(), *line, reason);
-                self.say_quoted(text, b"metroheap: the history is outside the grammar\n");
+                self.say_complaint(Place::Line(*line), reason, HISTORY_REFUSED);
             }
             CurveEnd::HistoryTooLong => {
                 self.say(
@@ -496,8 +495,7 @@ impl<E: Sink> Errors<E> {
                 );
             }
             CurveEnd::LogRefused { line, reason } => {
-                let text = line_complaint(self.alloc(), *line, reason);
-                self.say_quoted(text, b"metroheap: the log is outside the grammar\n");
+                self.say_complaint(Place::Line(*line), reason, LOG_REFUSED);
             }
         }
     }

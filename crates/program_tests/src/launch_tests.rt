@@ -1,8 +1,8 @@
 //! The threads of the program as it is launched, which no hook watches, and what a terminal hears of a sizing.
 use crate::graph::front_script;
 use crate::program::launch;
+use mh_program::launch::launch_told;
 use mh_program::progress::Telling;
-use mh_size_text::progress::{Progress, Step};
 use std::alloc::Global;
 use std::rt::Files;
 use std::sync::Wait;
@@ -73,22 +73,33 @@ fn a_wide_front_starts_a_thread(rt: HostRuntime) -> Result<(), Fail> {
     Ok(())
 }
 
-/// What standard error has of three steps of a sizing.
-fn heard(alloc: Global, is_terminal: bool) -> Vec<u8> {
+/// What standard error has of the sizing of a script that fits in one page.
+fn heard<R: Threads + Wait + Sync>(rt: &R, alloc: Global, is_terminal: bool) -> Vec<u8> {
+    let line: [&[u8]; 2] = [b"metroheap", b"size"];
+    let script: &[u8] = b"config 4 209 0 0\na new 0 0 1\n";
     let mut heard = Vec::new(alloc);
     let mut telling = Telling::new(&mut heard, is_terminal);
-    for step in [Step::Live, Step::Fewest, Step::Row(82)] {
-        telling.begins(step);
-    }
+    launch_told(
+        rt,
+        alloc,
+        &Words(&line),
+        script,
+        Vec::new(alloc),
+        Vec::new(alloc),
+        &mut telling,
+    );
     heard
 }
 
 #[test]
-fn only_a_terminal_hears_how_far_a_sizing_has_come(rt: HostRuntime) -> Result<(), Fail> {
-    let alloc = rt.alloc();
-    assert_eq!(rt; heard(alloc, false).len(), 0);
-    let told = heard(alloc, true);
-    let lines = told.split(|byte| *byte == b'\n').count();
-    assert_eq!(rt; (lines, told.ends_with(b" 82\n")), (4, true));
-    Ok(())
+fn only_a_terminal_hears_how_far_a_sizing_has_come(rt: HostRuntime) {
+    let text: &[u8] = b"metroheap: looking at what is live\n\
+        metroheap: searching for the fewest pages\n\
+        metroheap: running in pages: 1\n\
+        metroheap: running in pages: 2\n\
+        metroheap: running in pages: 2\n\
+        metroheap: running in pages: 2\n\
+        metroheap: running in pages: 3\n";
+    assert_eq!(rt; heard(&rt, rt.alloc(), false).len(), 0);
+    assert_eq!(rt; heard(&rt, rt.alloc(), true).as_slice(), text);
 }

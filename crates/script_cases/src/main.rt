@@ -1,5 +1,4 @@
-//! Prints what faults show, and tries the cases of the files that its words name: what the program writes, reports and answers on
-//! texts.
+//! Tries the cases of the files that its words name: what the program writes, reports and answers on texts.
 //!
 //! A line that begins with `%` is a heading, and the lines under it are its own, each with its end. In headings and lines
 //! `\xNN` is the byte of these two hexadecimal digits, and after a line that ends with `\` there is no end of a line.
@@ -49,9 +48,6 @@ use crate::reader::read_cases;
 use crate::report::Report;
 use crate::trial::try_cases;
 use anyhow::Result;
-use mh_command_line::fault::LineFault;
-use mh_orders::order::ConfigOption;
-use mh_script::fault::ScriptFault;
 use std::sync::Wait;
 use std::thread::Threads;
 use std::{env, fs};
@@ -66,30 +62,7 @@ fn try_file<R: Threads + Wait + Sync>(rt: &HostRuntime, threads: &R, name: &str)
     Ok(())
 }
 
-fn print_faults(rt: &HostRuntime) -> Result<()> {
-    for fault in [
-        ScriptFault::Read,
-        ScriptFault::Write,
-        ScriptFault::NoMemory,
-        ScriptFault::HistoryFull,
-    ] {
-        print!(rt; "{fault}")?;
-    }
-    print!(rt; "{}", LineFault::NotText)?;
-    for option in [
-        ConfigOption::Pages,
-        ConfigOption::Quantum,
-        ConfigOption::Trigger,
-        ConfigOption::Every,
-    ] {
-        print!(rt; "{}", LineFault::Configuration(option))?;
-    }
-    print!(rt; "{}", LineFault::NoMemory)?;
-    Ok(())
-}
-
 fn main(rt: HostRuntime) -> Result<()> {
-    print_faults(&rt)?;
     for name in env::args(&rt)?.skip(1) {
         try_file(&rt, &rt, name.as_str())?;
     }

@@ -1,4 +1,5 @@
-use Rattle.std.proofs.Common.{rules, refl}
+use Rattle.std.proofs.Common.{rules, refl, ◌≡◌, ◌∙◌}
+use Rattle.mh_reasons.specs.Texts.{line_reason_text}
 use Rattle.mh_embed.specs.Endings.{BlankLine, IsEvent, NoReason, Reasoned}
 use Rattle.mh_embed.proofs.reasons.reason.Goals as goal
 
@@ -12,4 +13,6 @@ pub returns-in-Asks : goal.returns-in-Asks
 returns-in-Asks c = IsEvent (search rules) (search rules) refl refl
 
 pub returns-in-Ok : goal.returns-in-Ok
-returns-in-Ok c = Reasoned c.line_reason-reason.result _ c.give.result (search rules) c.line_reason-reason.ensures c.give.ensures
+returns-in-Ok c =
+    let text : c.as_bytes.result.now ≡ line_reason_text c.line_reason-reason.result = c.as_bytes.ensures.value ∙ c.in-Ok.ensures in
+    Reasoned c.line_reason-reason.result c.give.result (search rules) c.line_reason-reason.ensures (rw (← text) c.give.ensures)

@@ -3,11 +3,17 @@ use Rattle.std.proofs.{KnownBytes.{Consumes-kept, Consumes-nil, Consumes-trans},
 use Rattle.std.specs.Prelude.{Ok}
 use Rattle.mh_live.specs.Heard.{unended_refusal}
 use Rattle.mh_live.proofs.FeedLemmas.{all_answered, fed_none, fed_some, fed_untold, front_of_end, front_of_fed, front_of_some, no_read, read_ended, whole_of_fed}
-use Rattle.mh_live.proofs.{PromiseLemmas.keeps_live, TurnLemmas.heard_more}
+use Rattle.mh_live.proofs.{PromiseLemmas.keeps_live, TalkLemmas.{prompt_fed, sends_more, sends_none}}
+use Rattle.mh_live.proofs.TurnLemmas.{heard_more}
 use Rattle.mh_live.proofs.feed.run_live.Goals as goal
 
 pub loop-init : goal.loop-init
-loop-init g c = (refl, refl, ([], Consumes-nil _, fed_none _ _ c.new-feed.result c.new-feed.ensures.live c.new-feed.ensures.number c.new-feed.ensures.begun (g.met.L.Listener.silence c.args.listener.now), omega arith))
+loop-init g c = (refl, refl, ([], Consumes-nil _, fed_none _ _ c.new-feed.result c.new-feed.ensures.live c.new-feed.ensures.number c.new-feed.ensures.begun (g.met.L.Listener.silence c.args.listener.now), omega arith, sends_none _))
+
+pub read-requires-clause-prompt : goal.read-requires-clause-prompt
+read-requires-clause-prompt g c =
+    let inv = c.loop.invariant.2 in
+    prompt_fed c.args.live _ _ _ inv.0 _ _ c.loop.feed c.requires.silent inv.4 inv.2
 
 pub returns-in_default-clause-begun : goal.returns-in_default-clause-begun
 returns-in_default-clause-begun g c =
@@ -91,6 +97,7 @@ loop-preserved g c =
         Consumes-trans _ _ _ _ _ inv.2.1 c.in-Ok.ensures.read.bytes,
         c.in_ok-bytes.ensures.done c.args.live inv.2.0 _ c.args.listener.now inv.2.2,
         omega (arith, inv.2.3, count, length-append inv.2.0 (take c.in-Ok.count c.read.new.buffer)),
+        sends_more _ _ _ inv.2.0 _ inv.2.4 c.in-Ok.ensures.sent,
       ),
     )
 
