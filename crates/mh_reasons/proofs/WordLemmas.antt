@@ -14,7 +14,7 @@ use Rattle.mh_reasons.specs.{declared.reason.ConfigNumber.ConfigNumber, declared
 use Rattle.mh_reasons.specs.{declared.verb.Verb.Verb, Lines.{HasPair, IsPlain}}
 use Rattle.mh_reasons.specs.Verbs.{verb_text, verb_bounds, NamesRow, config_bounds, Usage, usage_of}
 use Rattle.mh_reasons.specs.Operands.{are_numbers_below, fit, IsOperandReason}
-use Rattle.mh_reasons.specs.Reasons.{is_in_limits, are_in_limits_before, IsWrong, IsWordsReason, IsLineReason, IsWorldReason}
+use Rattle.mh_reasons.specs.Reasons.{is_in_limits, are_in_limits_before, IsWrong, IsWordsReason, IsLineReason}
 
 -- a wrong line isn't blank, and its words are wrong
 wrong_by : (is : Bool) (more : Line) → (if is then Blank else more) ≡ Wrong → (is ≡ false) × (more ≡ Wrong)
@@ -106,9 +106,3 @@ of_event false line first given r after uncommented plain split is = cc
 pub of_config : (configured : Bool) (line first : Text) (given : List Text) (r : LineReason) → configured ≡ false → ¬ HasPair line 32 35 → IsPlain line → words line ≡ first ∷ given → IsWordsReason Two false (first ∷ given) r → IsLineReason configured line r
 of_config true line first given r before uncommented plain split is = cc
 of_config false line first given r before uncommented plain split is = of_words false line r uncommented plain (rw split is)
-
--- what is said of a line after the configuration is said of it in a world, but of a second configuration
-pub of_world : (line : Text) (r : LineReason) → (r ≡ LineReason.SecondConfig → ⊥) → IsLineReason true line r → IsWorldReason line r
-of_world line LineReason.SecondConfig other is = absurd (other refl)
-of_world line LineReason.WorldConfig other is = absurd is.2
-of_world line r other is = is

@@ -1,7 +1,7 @@
 -- A cycle ends in time: at every moment of a run what is left of it and the quanta that it has had are within its bounds.
 -- From this the reply of `left` follows.
 use Rattle.std.specs.Prelude.{◌<◌, ◌-◌, suc}
-use Rattle.std.proofs.Common.{◌≡◌, ◌⊎◌, ℕ, suc, ◌+◌, ◌-◌, ◌<◌, ◌≤◌, Bool, true, false, if◌then◌else◌, inl, inr, List, length, None, refl, sym, ap, ◌∙◌, subst, arith}
+use Rattle.std.proofs.Common.{◌≡◌, ◌⊎◌, ℕ, suc, ◌+◌, ◌-◌, ◌<◌, ◌≤◌, true, false, if◌then◌else◌, inl, inr, List, length, None, refl, sym, ap, ◌∙◌, subst, arith}
 use Rattle.std.proofs.Math.Nat.{le-div_iff_mul-le, suc-mul}
 use Rattle.std.proofs.lemmas.Bool.{cases_Bool, leb-true, ltb-true, ltb-false, true≢false}
 use Rattle.std.proofs.{lemmas.List.length-replicate, lemmas.Option.none-some}
@@ -54,11 +54,6 @@ cycle_start-fresh config collector bounds =
 
 cycle_start-started : (config : Config) (collector : Collector) → IsInBounds config collector → is_idle collector.phase ≡ true → IsStarted config collector (record (cycle_start collector) { quanta = 1 })
 cycle_start-started config collector bounds idle = grind (arith, cycle_start-fresh)
-
--- the count of quanta and the asking make no difference to what is left
-module _ (collector : Collector) (quanta : ℕ) (is_asked : Bool) where
-  abbrev recounted : Collector
-  recounted = record collector { quanta = quanta; is_asked = is_asked }
 
 with_count-started : (config : Config) (collector : Collector) → IsInBounds config collector → is_idle collector.phase ≡ false → IsStarted config collector (record collector { quanta = collector.quanta + 1 })
 with_count-started config collector bounds runs = grind arith

@@ -2,7 +2,7 @@
 use Rattle.std.proofs.Common.{◌≡◌, ℕ, if◌then◌else◌, Bool, false, Option, Some, None, List, [], ◌∷◌, get_or, nat_le, sym, ap, ◌∙◌, arith}
 use Rattle.std.proofs.lemmas.Bool.{false≢true}
 use Rattle.mh_model.specs.{declared.command.Command.Command, declared.reply.Refusal.Refusal}
-use Rattle.mh_model.specs.declared.reply.Refusal.TheVariants.{BadSlot, Ended, HeapFull, TooLarge, TooManySessions}
+use Rattle.mh_model.specs.declared.reply.Refusal.TheVariants.{Ended, HeapFull, TooManySessions}
 use Rattle.mh_model.specs.declared.reply.Reply.{Reply}
 use Rattle.mh_model.specs.World.{Answer, IsNew, first_refusal, never_full, tests, refusal, unless_refused}
 use Rattle.mh_model.specs.{Mutator.{HeapState, heap_sight, heap_effect, mutator_step}, Snapshot.is_heap_full}
@@ -39,10 +39,6 @@ module _ (heap : HeapState) (who : ℕ) where
   new-alone asked e = grind (arith, other-command, yes_or_no-other, shape_reply-other)
 
 -- The tests of a new object ----------------------------------------------------------------------
-
--- its tests in order, with what they find
-abbrev new_tests : (many ended bad large full : Bool) → List (Bool × Refusal)
-new_tests many ended bad large full = (many, TooManySessions) ∷ (ended, Ended) ∷ (bad, BadSlot) ∷ (large, TooLarge) ∷ (full, HeapFull) ∷ []
 
 refused-other : (refused : Refusal) (heap : HeapState) (answer : Answer HeapState) → is_heap_full (Reply.Refused refused) ≡ false → ¬ ((unless_refused (Some refused) heap answer).reply ≡ Reply.Refused HeapFull)
 refused-other refused heap answer plain e = false≢true (sym plain ∙ ap is_heap_full e)

@@ -31,9 +31,6 @@ first_refusal-others (test ∷ all) others refused e =
     let (here, after) = and_parts (not (is_fullness test.1 && test.0)) (are_others all) others in
     go test.0 (not-true (is_fullness test.1 && test.0) here) e (λ h. first_refusal-others all after refused h)
   where
-    drop_true : (b : Bool) → (b && true) ≡ false → b ≡ false
-    drop_true b e = grind arith
-
     go : (b : Bool) → (is_fullness test.1 && b) ≡ false → (if b then Some test.1 else first_refusal all) ≡ Some refused → (first_refusal all ≡ Some refused → is_fullness refused ≡ false) → is_fullness refused ≡ false
     go b other h ih = grind arith
 

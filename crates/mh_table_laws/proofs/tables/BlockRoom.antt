@@ -1,5 +1,5 @@
 -- The words of a page: its slots have room for the blocks of its class, and each block fits its slot.
-use Rattle.std.proofs.Common.{◌≡◌, ℕ, ◌+◌, ◌*◌, ◌≤◌, ◌&&◌, Bool, true, nat_le, if◌then◌else◌, inl, inr, List, [], ◌∷◌, length, get_or, set, Option, Some, None, option_map, option_and_then, unwrap_or, find, refl, sym, ap, ◌∙◌, subst, arith}
+use Rattle.std.proofs.Common.{◌≡◌, ℕ, ◌+◌, ◌*◌, ◌≤◌, Bool, true, nat_le, if◌then◌else◌, inl, inr, List, [], ◌∷◌, length, get_or, set, Option, Some, None, option_map, option_and_then, unwrap_or, find, refl, sym, ap, ◌∙◌, subst, arith}
 use Rattle.std.proofs.{lemmas.Bool.{and_parts, leb-true}, lemmas.Option.{none-some, same_Some}}
 use Rattle.std.proofs.lemmas.List.{length-set, length-replicate, set-get_or}
 use Rattle.mh_model.specs.Classes.{class_of, slots_in}
@@ -75,9 +75,6 @@ pub record IsClass (size : ℕ) : Type 0 where
   pub least : 4 ≤ size
   pub most : size ≤ 64
   pub words : size * slots_in size ≤ 256
-
-abbrev is_class : ℕ → Bool
-is_class size = nat_le 4 size && (nat_le size 64 && nat_le (size * slots_in size) 256)
 
 pub class_of-is : (words size : ℕ) → class_of words ≡ Some size → IsClass size
 class_of-is words size e = search (arith, nat_le, none-some, and_parts, find-passes, leb-true)

@@ -1,6 +1,6 @@
 -- Legal histories of both versions keep their rule step by step.
-use Rattle.std.proofs.{Common.{◌≡◌, ◌⊎◌, ℕ, true, List, [], ◌∷◌, refl, arith}, lemmas.Bool.and_parts}
-use Rattle.mh_model.specs.{declared.config.Config.Config, declared.reply.Reply.Reply, declared.history.Entry.Entry}
+use Rattle.std.proofs.{Common.{◌≡◌, ◌⊎◌, true, List, [], ◌∷◌, refl, arith}, lemmas.Bool.and_parts}
+use Rattle.mh_model.specs.{declared.config.Config.Config, declared.history.Entry.Entry}
 use Rattle.mh_model.specs.declared.history.Version.TheVariants.{One}
 use Rattle.mh_model.specs.{Machine.{Machine, first_machine, event_step, machine_replies}, Limits.most_entries}
 use Rattle.mh_model.specs.History.{IsLegal, events_of, replies_of}
@@ -43,9 +43,6 @@ IsRight machine m = m ≡ measured_step machine m.entry.event (event_step machin
 
 abbrev pub after_measured : Machine → Measured → Machine
 after_measured machine m = (event_step machine m.entry.event).state
-
-abbrev with_parts : Measured → Reply → ℕ → ℕ → Measured
-with_parts m reply a b = record { entry = record { event = m.entry.event; reply = reply }; mutator = a; collector = b }
 
 record-follows : (machine : Machine) (entries : List Measured) → Follows IsRight after_measured machine entries → entries ≡ machine_record machine (measured_events entries)
 unfolding machine_record
