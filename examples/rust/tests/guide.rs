@@ -378,11 +378,10 @@ fn a_world_judges() {
         references: 0,
         numbers: 7,
     };
+    let null = Reply::Refused(Refusal::Null);
     assert_eq!(world.judge(new(0, 7), &full), Ok(Verdict::Right));
-    assert_eq!(
-        world.judge(shape, &Reply::Refused(Refusal::Null)),
-        Ok(Verdict::Right)
-    );
+    assert_eq!(world.judge(shape, &null), Ok(Verdict::Right));
+    assert_eq!(world.judge(shape, &full), Ok(Verdict::Differs(null)));
     assert_eq!(world.judge(new(0, 7), &Reply::Ok), Ok(Verdict::Right));
     assert_eq!(
         world.judge(shape, &Reply::Yes),
