@@ -13,7 +13,7 @@ _metroheap_judge() {
             return
             ;;
         --profile)
-            mapfile -t COMPREPLY < <(compgen -W 'churn lists trees wide large frag refusals mixed barriers comb cycles race' -- "$word")
+            mapfile -t COMPREPLY < <(compgen -W 'churn lists trees wide large frag refusals mixed barriers comb fans cycles race' -- "$word")
             return
             ;;
     esac

@@ -9,7 +9,7 @@ _metroheap() {
             return
             ;;
         --profile)
-            mapfile -t COMPREPLY < <(compgen -W 'churn lists trees wide large frag refusals barriers comb race cycles mixed' -- "$word")
+            mapfile -t COMPREPLY < <(compgen -W 'churn lists trees wide large frag refusals barriers comb fans race cycles mixed' -- "$word")
             return
             ;;
     esac

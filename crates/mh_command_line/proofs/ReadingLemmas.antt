@@ -8,7 +8,7 @@ use Rattle.clap.proofs.WalkLemmas.{first_value-rows}
 use Rattle.clap.specs.{Matches.{ReadsOne, TriesOne, first_value}, Values.{IsUnsignedIn, read_as}}
 use Rattle.clap.specs.{Walk.{Row, Text, one_of, row_text, rows_of}, declared.parser.matches.Found.Found}
 use Rattle.mh_orders.specs.{Profiles.{NamesProfile, profile_name}, declared.profile.Profile.Profile}
-use Rattle.mh_orders.specs.declared.profile.Profile.TheVariants.{Churn, Lists, Trees, Wide, Large, Fragments, Refusals, Barriers, Comb, Race, Cycles, Mixed}
+use Rattle.mh_orders.specs.declared.profile.Profile.TheVariants.{Churn, Lists, Trees, Wide, Large, Fragments, Refusals, Barriers, Comb, Fans, Race, Cycles, Mixed}
 use Rattle.mh_orders.specs.declared.profile.UnknownProfile.{UnknownProfile}
 use Rattle.mh_command_line.specs.{Rates.{ReadsRates, rates_in}, Shares.{ReadsShare, asked_share}}
 use Rattle.mh_command_line.specs.Values.{IsNumber, names_one, number_in_digits, profiles}
@@ -130,6 +130,7 @@ profile-can t profile is = ap names_one is ∙ named profile where
   named Refusals = refl
   named Barriers = refl
   named Comb = refl
+  named Fans = refl
   named Race = refl
   named Cycles = refl
   named Mixed = refl

@@ -5,7 +5,7 @@ use Rattle.std.specs.Str.Parse.{IsNumeral, digits_value, without_leading_plus}
 use Rattle.clap.specs.Words.{Row, Text, one_of}
 use Rattle.mh_model.specs.declared.config.Rules.{Rules, TheVariants.{First, Second}}
 use Rattle.mh_orders.specs.{Profiles.profile_name, declared.profile.Profile.Profile}
-use Rattle.mh_orders.specs.declared.profile.Profile.TheVariants.{Churn, Lists, Trees, Wide, Large, Fragments, Refusals, Barriers, Comb, Race, Cycles, Mixed}
+use Rattle.mh_orders.specs.declared.profile.Profile.TheVariants.{Churn, Lists, Trees, Wide, Large, Fragments, Refusals, Barriers, Comb, Fans, Race, Cycles, Mixed}
 use Rattle.mh_command_line.specs.{Rates.rates_in, Shares.asked_share, Table.OptionRule}
 use Rattle.mh_command_line.specs.{declared.options.NotNumber.NotNumber, declared.options.OptionNumber.OptionNumber}
 use Rattle.mh_command_line.specs.{declared.table.Kind.Kind, declared.table.Rule.Rule}
@@ -90,7 +90,7 @@ abbrev pub lacks_rates : Text → List Row → Bool
 lacks_rates name rows = lacks (λ text. is_some (rates_in text)) name rows
 
 abbrev pub profiles : List Profile
-profiles = Churn ∷ Lists ∷ Trees ∷ Wide ∷ Large ∷ Fragments ∷ Refusals ∷ Barriers ∷ Comb ∷ Race ∷ Cycles ∷ Mixed ∷ []
+profiles = Churn ∷ Lists ∷ Trees ∷ Wide ∷ Large ∷ Fragments ∷ Refusals ∷ Barriers ∷ Comb ∷ Fans ∷ Race ∷ Cycles ∷ Mixed ∷ []
 
 abbrev pub names_one : Text → Bool
 names_one text = list_any (λ profile. bytes_eq text (profile_name profile)) profiles

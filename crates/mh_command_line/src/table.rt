@@ -340,7 +340,7 @@ pub(crate) const FIRST_SUBCOMMANDS: &[Subcommand] = &[
                 "profile",
                 "NAME",
                 Kind::Text,
-                "The mix of events: churn, lists, trees, wide, large, frag, refusals, barriers, comb, race, cycles or mixed, which is the first seven in turn; mixed if it is not given",
+                "The mix of events: churn, lists, trees, wide, large, frag, refusals, barriers, comb, fans, race, cycles or mixed, which is the first seven in turn; mixed if it is not given",
             ),
             (
                 "controls",
@@ -360,7 +360,7 @@ pub(crate) const FIRST_SUBCOMMANDS: &[Subcommand] = &[
             VALUE,
             "profile",
             VALUE,
-            "churn, lists, trees, wide, large, frag, refusals, barriers, comb, race, cycles or mixed",
+            "churn, lists, trees, wide, large, frag, refusals, barriers, comb, fans, race, cycles or mixed",
             "",
         )],
     ),

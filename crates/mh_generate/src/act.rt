@@ -27,12 +27,13 @@ pub(crate) enum Touch {
     Shape,
 }
 
-/// A reference of an object: the one that was loaded last, or any that leads nowhere, or somewhere.
+/// A reference of an object: the one that was loaded last, any that leads nowhere, or somewhere, or the last one it has.
 #[derive(Clone, Copy)]
 pub(crate) enum Field {
     Loaded,
     Null,
     Set,
+    Last,
 }
 
 /// A step of an act. Its slots are counted from one that the act has.
@@ -54,6 +55,8 @@ pub(crate) enum Step {
     Forget,
     /// The first slot names what a reference of the object in the second leads to.
     Load(u32, u32),
+    /// The same with its last reference, also if that leads nowhere.
+    LoadLast(u32, u32),
     /// A reference of the object in the first slot leads to what the other names.
     Store(u32, Field, u32),
     /// A reference of the object in the slot leads nowhere.
@@ -191,6 +194,11 @@ impl Act {
             Step::Withdraw => post(self.board?, EMPTY),
             Step::End => Command::End,
             Step::Load(to, from) => self.load(self.slot(to), self.slot(from), stage, random)?,
+            Step::LoadLast(to, from) => {
+                let from = self.slot(from);
+                let last = stage.sight.last_reference(stage.sight.object(from)?)?;
+                get(self.slot(to), from, last)
+            }
             Step::Store(slot, field, value) => {
                 let value = stage.named(self.slot(value))?;
                 self.store(self.slot(slot), field, value, stage, random)?
@@ -235,6 +243,7 @@ impl Act {
             Field::Loaded => self.loaded[slot as usize]?,
             Field::Null => stage.sight.reference(object, false, random)?,
             Field::Set => stage.sight.reference(object, true, random)?,
+            Field::Last => stage.sight.last_reference(object)?,
         };
         Some(put(slot, field, value))
     }

@@ -35,7 +35,7 @@ fn has_acts(profile: Profile) -> bool
     ensures { result ≡ has_acts profile }
 {
     match profile {
-        Profile::Barriers | Profile::Comb | Profile::Race | Profile::Cycles => true,
+        Profile::Barriers | Profile::Comb | Profile::Fans | Profile::Race | Profile::Cycles => true,
         _ => false,
     }
 }

@@ -18,9 +18,9 @@ const PER_PAGE: u32 = 16;
 
 pub(crate) const SIZES: [(u32, u32); 1] = [(1, 1)];
 
-const WIDE: u32 = 0;
+pub(crate) const WIDE: u32 = 0;
 
-const TOOTH: u32 = 1;
+pub(crate) const TOOTH: u32 = 1;
 
 /// Parts of a round, of eighths of events for each object: objects are made, a collection is waited for, and then each is
 /// read.
@@ -30,16 +30,16 @@ const WAITING: u32 = 5;
 
 const ROUND: u32 = 8;
 
-const BEGIN: &[Step] = &[MakeWide(WIDE), Touch(WIDE, MarkFirst)];
+pub(crate) const BEGIN: &[Step] = &[MakeWide(WIDE), Touch(WIDE, MarkFirst)];
 
-const FILL: &[Step] = &[
+pub(crate) const FILL: &[Step] = &[
     Make(TOOTH),
     Touch(TOOTH, MarkFirst),
     Store(WIDE, Null, TOOTH),
 ];
 
 /// What is done until a collection is over.
-const WAIT: &[Step] = &[
+pub(crate) const WAIT: &[Step] = &[
     Clear(TOOTH),
     Make(TOOTH),
     Touch(TOOTH, SpoilFirst),
@@ -49,7 +49,7 @@ const WAIT: &[Step] = &[
 ];
 
 /// One more object is read, and let go.
-const LOOK: &[Step] = &[
+pub(crate) const LOOK: &[Step] = &[
     Load(TOOTH, WIDE),
     Cut(WIDE, Loaded),
     Touch(TOOTH, ReadFirst),

@@ -14,6 +14,7 @@ mod churn;
 mod comb;
 mod controls;
 mod cycles;
+mod fans;
 mod fragments;
 pub mod generate;
 mod large;

@@ -115,6 +115,7 @@ impl Mix {
             Profile::Churn
             | Profile::Barriers
             | Profile::Comb
+            | Profile::Fans
             | Profile::Race
             | Profile::Cycles
             | Profile::Mixed => churn::plan(session, random),

@@ -10,7 +10,7 @@ use crate::mix::SPEAKERS;
 use crate::random::{Random, SLOTS};
 use crate::say::same;
 use crate::sight::Sight;
-use crate::{barriers, comb, cycles, race};
+use crate::{barriers, comb, cycles, fans, race};
 use mh_model::command::Command;
 use mh_orders::generate_options::Options;
 use mh_orders::profile::Profile;
@@ -39,6 +39,9 @@ const LEAVE: &[Step] = &[
     Post(1),
     End,
 ];
+
+/// The same where the board has what all sessions work on.
+const LEAVE_ALONE: &[Step] = &[End];
 
 /// The acts of all sessions, as far as they have come.
 #[derive(Clone, Copy)]
@@ -87,7 +90,7 @@ impl Scene {
         let who = usize::from(sight.who);
         let stage = stage(sight, options);
         if who > 0 && is_ending(options, number, random) {
-            self.acts[who] = Act::of(LEAVE, KEPT);
+            self.acts[who] = Act::of(leave(options), KEPT);
         }
         for _ in 0..TRIES {
             if let Some(command) = self.acts[who].next(&stage, random) {
@@ -107,9 +110,18 @@ fn is_ending(options: &Options, number: u32, random: &mut Random) -> bool {
     rest < options.events / PARTS && random.chance(sessions * PARTS, options.events.max(1))
 }
 
+fn leave(options: &Options) -> &'static [Step] {
+    if options.profile == Profile::Fans {
+        LEAVE_ALONE
+    } else {
+        LEAVE
+    }
+}
+
 fn stage<'a>(sight: Sight<'a>, options: &Options) -> Stage<'a> {
     let (sizes, wide, boards): (&'static [(u32, u32)], (u32, u32), u32) = match options.profile {
         Profile::Comb => (&comb::SIZES, comb::wide(options), SLOTS),
+        Profile::Fans => (&comb::SIZES, fans::SIZE, fans::BOARDS),
         Profile::Race => (&race::SIZES, (1, 1), race::BOARDS),
         Profile::Cycles => (&cycles::SIZES, cycles::LITTER_SIZE, SLOTS),
         _ => (&barriers::SIZES, (1, 1), SLOTS),
@@ -127,6 +139,7 @@ fn act(sight: &Sight<'_>, options: &Options, number: u32, random: &mut Random) -
     let rest = options.events.saturating_sub(number);
     match options.profile {
         Profile::Comb => comb::act(sight, options, number, random),
+        Profile::Fans => fans::act(sight, options, number, random),
         Profile::Race => race::act(random),
         Profile::Cycles => cycles::act(random),
         _ if rest < options.events / WALK_PARTS => barriers::walk(sight, random),

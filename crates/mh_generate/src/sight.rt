@@ -57,6 +57,12 @@ impl Sight<'_> {
         }
     }
 
+    /// The last reference that an object has.
+    pub(crate) fn last_reference(&self, birth: Birth) -> Option<u32> {
+        let last = self.references(birth).len().checked_sub(1)?;
+        u32::try_from(last).ok()
+    }
+
     /// A reference of an object that leads somewhere, or one that leads nowhere. It is often the first or the last.
     pub(crate) fn reference(&self, birth: Birth, is_set: bool, random: &mut Random) -> Option<u32> {
         let references = self.references(birth);

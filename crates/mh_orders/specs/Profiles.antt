@@ -2,7 +2,7 @@
 use Rattle.std.specs.Prelude.{◌≡◌, ◌≢◌, Result, Ok, Err, codes}
 use Rattle.mh_model.specs.Bytes.{Text}
 use Rattle.mh_orders.specs.declared.profile.Profile.{Profile}
-use Rattle.mh_orders.specs.declared.profile.Profile.TheVariants.{Churn, Lists, Trees, Wide, Large, Fragments, Refusals, Barriers, Comb, Race, Cycles, Mixed}
+use Rattle.mh_orders.specs.declared.profile.Profile.TheVariants.{Churn, Lists, Trees, Wide, Large, Fragments, Refusals, Barriers, Comb, Fans, Race, Cycles, Mixed}
 use Rattle.mh_orders.specs.declared.profile.UnknownProfile.{UnknownProfile}
 
 -- the name of a profile
@@ -16,6 +16,7 @@ profile_name Fragments = codes "frag"
 profile_name Refusals = codes "refusals"
 profile_name Barriers = codes "barriers"
 profile_name Comb = codes "comb"
+profile_name Fans = codes "fans"
 profile_name Race = codes "race"
 profile_name Cycles = codes "cycles"
 profile_name Mixed = codes "mixed"

@@ -25,6 +25,9 @@ pub enum Profile {
     Barriers,
     /// Objects with thousands of references, so that as many objects are grey at once.
     Comb,
+    /// A chain of objects of many references, each to an object of its own, so that a collector which looks at the last
+    /// reference first has nearly all of them waiting.
+    Fans,
     /// Sessions that share few objects, and never write one number twice.
     Race,
     /// Few objects that live, so that hundreds of cycles come.
@@ -35,7 +38,7 @@ pub enum Profile {
 
 /// A text that names no profile.
 #[derive(Clone, Copy, Debug, PartialEq, Eq, Error)]
-#[error("not churn, lists, trees, wide, large, frag, refusals, barriers, comb, race, cycles or mixed")]
+#[error("not churn, lists, trees, wide, large, frag, refusals, barriers, comb, fans, race, cycles or mixed")]
 pub struct UnknownProfile;
 
 impl FromStr for Profile {
@@ -56,6 +59,7 @@ impl FromStr for Profile {
             "refusals" => Ok(Profile::Refusals),
             "barriers" => Ok(Profile::Barriers),
             "comb" => Ok(Profile::Comb),
+            "fans" => Ok(Profile::Fans),
             "race" => Ok(Profile::Race),
             "cycles" => Ok(Profile::Cycles),
             "mixed" => Ok(Profile::Mixed),

@@ -18,7 +18,7 @@ use Rattle.mh_script.specs.declared.{end.End.End, end.End.TheVariants.{Done, Ref
 use Rattle.mh_script.specs.declared.fault.ScriptFault.{ScriptFault}
 use Rattle.mh_script.specs.declared.fault.ScriptFault.TheVariants.{Read, Write, NoMemory, HistoryFull}
 use Rattle.mh_size_text.specs.declared.end.SizeEnd.{SizeEnd}
-use Rattle.mh_program.specs.declared.complaints.Place.{Place}
+use Rattle.mh_program.specs.declared.complaints.Subject.{Subject}
 use Rattle.mh_text.specs.Devices.{Device, FailsAt, Takes}
 use Rattle.mh_reasons.specs.declared.history_reason.HistoryReason.{HistoryReason}
 use Rattle.mh_reasons.specs.Texts.{history_reason_text, script_reason_text}
@@ -62,21 +62,11 @@ outside_text Quantum = codes "metroheap: bad configuration: --quantum goes from 
 outside_text Trigger = codes "metroheap: bad configuration: --trigger goes from 0 to the number of pages"
 outside_text Every = codes "metroheap: bad configuration: --every goes from 0 to 1000000"
 
--- how a complaint of a line begins, and one of an entry of a history, whose entries begin at line 2
-abbrev pub line_place : ℕ → Text
-line_place line = codes "metroheap: line " ++ decimal line ++ codes ": "
-
-abbrev pub entry_place : ℕ → Text
-entry_place number = codes "metroheap: line " ++ decimal (number + 1) ++ codes ", entry " ++ decimal number ++ codes ": "
-
--- and one of an entry of an order
-abbrev pub order_place : ℕ → Text
-order_place number = codes "metroheap: entry " ++ decimal number ++ codes " of the order: "
-
-abbrev pub place_text : Place → Text
-place_text (Place.Line line) = line_place line
-place_text (Place.Entry number) = entry_place number
-place_text (Place.Order number) = order_place number
+-- how a complaint begins: of a line, of an entry of a history, whose entries begin at line 2, and of an entry of an order
+abbrev pub subject_text : Subject → Text
+subject_text (Subject.Line line) = codes "metroheap: line " ++ decimal line ++ codes ": "
+subject_text (Subject.Entry number) = codes "metroheap: line " ++ decimal (number + 1) ++ codes ", entry " ++ decimal number ++ codes ": "
+subject_text (Subject.Order number) = codes "metroheap: entry " ++ decimal number ++ codes " of the order: "
 
 -- what is said of a history that is refused, of which the entries were judged by what sessions see. The whole lines of one that was cut off were judged
 abbrev pub seen_reason_text : ℕ → HistoryReason → Text
@@ -101,7 +91,7 @@ SaysWords old new = SaysQuoted old new IsPrintable (line_text (codes "metroheap:
 
 -- of a script that is refused: where, and why
 abbrev pub SaysRefusal : ErrorStream → ErrorStream → LineRefusal → Type 0
-SaysRefusal old new refusal = SaysComplaint old new (line_place refusal.line) (script_reason_text refusal.reason) (codes "metroheap: the script is outside the grammar")
+SaysRefusal old new refusal = SaysComplaint old new (subject_text (Subject.Line refusal.line)) (script_reason_text refusal.reason) (codes "metroheap: the script is outside the grammar")
 
 -- of lines that are refused one by one: the same of each in turn
 pub data SaysRefusals : ErrorStream → List LineRefusal → ErrorStream → Type 0 where
@@ -122,8 +112,8 @@ SaysSized old new ended = SaysNothing old new
 -- of a history: nothing if it is legal, and else where and why it isn't
 abbrev pub SaysJudgement : ErrorStream → ErrorStream → HistoryJudgement → Type 0
 SaysJudgement old new (Judgement.Legal count) = SaysNothing old new
-SaysJudgement old new (Judgement.Refused line reason) = SaysComplaint old new (line_place line) (history_reason_text reason) (codes "metroheap: the history is outside the grammar")
-SaysJudgement old new (Judgement.FirstBad number fault) = SaysComplaint old new (entry_place number) (entry_fault_text fault) (codes "metroheap: an entry is bad")
+SaysJudgement old new (Judgement.Refused line reason) = SaysComplaint old new (subject_text (Subject.Line line)) (history_reason_text reason) (codes "metroheap: the history is outside the grammar")
+SaysJudgement old new (Judgement.FirstBad number fault) = SaysComplaint old new (subject_text (Subject.Entry number)) (entry_fault_text fault) (codes "metroheap: an entry is bad")
 
 -- the line of what was looked through of a history
 abbrev pub tally_text : EntryCounts → Text
@@ -136,7 +126,7 @@ SaysTally old new found = MatchOption found (SaysNothing old new) (λ tally. Say
 
 -- of a history that is judged by what its sessions see: of one that was cut off also how many entries are legal, and then what was looked through
 abbrev pub SaysSeenJudgement : ErrorStream → ErrorStream → HistoryJudgement → Type 0
-SaysSeenJudgement old new (Judgement.Refused line reason) = SaysComplaint old new (line_place line) (seen_reason_text line reason) (codes "metroheap: the history is outside the grammar")
+SaysSeenJudgement old new (Judgement.Refused line reason) = SaysComplaint old new (subject_text (Subject.Line line)) (seen_reason_text line reason) (codes "metroheap: the history is outside the grammar")
 SaysSeenJudgement old new judgement = SaysJudgement old new judgement
 
 abbrev pub SaysSeen : ErrorStream → ErrorStream → SessionsJudgement → Type 0
@@ -145,8 +135,8 @@ SaysSeen old new found = (between : ErrorStream) × SaysSeenJudgement old betwee
 -- of a judgement on a log: nothing if its order is legal, and else where and why it isn't
 abbrev pub SaysLogJudgement : ErrorStream → ErrorStream → LogJudgement → Type 0
 SaysLogJudgement old new (Judgement.Legal count) = SaysNothing old new
-SaysLogJudgement old new (Judgement.Refused line reason) = SaysComplaint old new (line_place line) (log_reason_text reason) (codes "metroheap: the log is outside the grammar")
-SaysLogJudgement old new (Judgement.FirstBad number fault) = SaysComplaint old new (order_place number) (order_fault_text fault) (codes "metroheap: an entry is bad")
+SaysLogJudgement old new (Judgement.Refused line reason) = SaysComplaint old new (subject_text (Subject.Line line)) (log_reason_text reason) (codes "metroheap: the log is outside the grammar")
+SaysLogJudgement old new (Judgement.FirstBad number fault) = SaysComplaint old new (subject_text (Subject.Order number)) (order_fault_text fault) (codes "metroheap: an entry is bad")
 
 -- the line of what was looked through of the order of a log
 abbrev pub counts_text : OrderCounts → Text
@@ -204,9 +194,9 @@ abbrev pub SaysCurve : ErrorStream → ErrorStream → CurveEnd → Type 0
 SaysCurve old new (CurveEnd.Drawn found) = SaysPromises old new found
 SaysCurve old new (CurveEnd.HistoryFull found) = (between : ErrorStream) × SaysPromises old between found × Says between new (line_text (fault_text HistoryFull))
 SaysCurve old new (CurveEnd.ScriptRefused refusal) = SaysRefusal old new refusal
-SaysCurve old new (CurveEnd.HistoryRefused line reason) = SaysComplaint old new (line_place line) (history_reason_text reason) (codes "metroheap: the history is outside the grammar")
+SaysCurve old new (CurveEnd.HistoryRefused line reason) = SaysComplaint old new (subject_text (Subject.Line line)) (history_reason_text reason) (codes "metroheap: the history is outside the grammar")
 SaysCurve old new CurveEnd.HistoryTooLong = Says old new (line_text (codes "metroheap: line 0: a history has fewer than 4611686018427387904 units"))
-SaysCurve old new (CurveEnd.LogRefused line reason) = SaysComplaint old new (line_place line) (reason_text reason) (codes "metroheap: the log is outside the grammar")
+SaysCurve old new (CurveEnd.LogRefused line reason) = SaysComplaint old new (subject_text (Subject.Line line)) (reason_text reason) (codes "metroheap: the log is outside the grammar")
 
 -- of what ends with more to tell, or with a fault
 abbrev pub SaysRun : {T : Type 0} → (ErrorStream → ErrorStream → T → Type 0) → ErrorStream → ErrorStream → Result T ScriptFault → Type 0

@@ -6,7 +6,7 @@
 ghost use Rattle.std.specs.Prelude.{◌≡◌, ◌+◌, ◌++◌, IfOk, IfSome, MatchResult, Some};
 ghost use Rattle.mh_model.specs.Bytes.{line_text};
 ghost use Rattle.mh_command_line.specs.Printable.{IsPrintable};
-ghost use Rattle.mh_program.specs.Complaints.{More, None, Says, SaysCounts, SaysCurve, SaysEnd, SaysFound, SaysJudgement, SaysLine, SaysLog, SaysLogJudgement, SaysPromises, SaysQuoted, SaysRefusal, SaysRefusals, SaysSeen, SaysSeenJudgement, SaysSized, SaysTally, SaysWords, counts_text, fault_text, floor_text, outside_text, pause_text, place_text, seen_reason_text, stretch_text, tally_text, untried_floor_text, untried_pause_text, untried_stretch_text};
+ghost use Rattle.mh_program.specs.Complaints.{More, None, Says, SaysCounts, SaysCurve, SaysEnd, SaysFound, SaysJudgement, SaysLine, SaysLog, SaysLogJudgement, SaysPromises, SaysQuoted, SaysRefusal, SaysRefusals, SaysSeen, SaysSeenJudgement, SaysSized, SaysTally, SaysWords, counts_text, fault_text, floor_text, outside_text, pause_text, seen_reason_text, stretch_text, subject_text, tally_text, untried_floor_text, untried_pause_text, untried_stretch_text};
 
 use crate::errors::Errors;
 use arrayvec::ArrayString;
@@ -74,9 +74,9 @@ fn outside_line(option: ConfigOption) -> &'static [u8]
     }
 }
 
-/// Where something is wrong.
+/// What a complaint is about.
 #[derive(Clone, Copy)]
-enum Place {
+enum Subject {
     Line(u64),
     /// An entry of a history. Entries begin at line 2.
     Entry(u64),
@@ -84,27 +84,31 @@ enum Place {
     Order(u64),
 }
 
-impl fmt::Display for Place {
-    ghost output = { λ place. Some (place_text place) };
+impl fmt::Display for Subject {
+    ghost output = { λ subject. Some (subject_text subject) };
 
     fn fmt<W: fmt::Write>(&self, f: &mut fmt::Formatter<W>) -> fmt::Result {
         match *self {
-            Place::Line(line) => write!(f, "metroheap: line {line}: "),
-            Place::Entry(number) => {
+            Subject::Line(line) => write!(f, "metroheap: line {line}: "),
+            Subject::Entry(number) => {
                 let line = u128::from(number) + 1;
                 write!(f, "metroheap: line {line}, entry {number}: ")
             }
-            Place::Order(number) => write!(f, "metroheap: entry {number} of the order: "),
+            Subject::Order(number) => write!(f, "metroheap: entry {number} of the order: "),
         }
     }
 }
 
 /// The line that says where something is wrong, and what.
-fn complaint<T: fmt::Display>(alloc: Global, place: Place, what: &T) -> Result<Vec<u8>, AllocError>
-    ensures { IfOk result (λ text. IfSome (T.output what.now) (λ said. text.items ≡ place_text place ++ line_text said)) }
+fn complaint<T: fmt::Display>(
+    alloc: Global,
+    subject: Subject,
+    what: &T,
+) -> Result<Vec<u8>, AllocError>
+    ensures { IfOk result (λ text. IfSome (T.output what.now) (λ said. text.items ≡ subject_text subject ++ line_text said)) }
 {
     let what = format!(in alloc; "{what}")?;
-    let text = format!(in alloc; "{place}{what}\n")?;
+    let text = format!(in alloc; "{subject}{what}\n")?;
     Ok(text.into_bytes())
 }
 
@@ -273,10 +277,10 @@ impl<E: Sink> Errors<E> {
     }
 
     /// Says where something is wrong and what, or another text if there was no memory for that.
-    fn say_complaint<T: fmt::Display>(&mut self, place: Place, what: &T, other: &[u8])
-        ensures { IfSome (T.output what.now) (λ said. SaysQuoted self.old self.new (λ text. text ≡ place_text place ++ line_text said) other.now) }
+    fn say_complaint<T: fmt::Display>(&mut self, subject: Subject, what: &T, other: &[u8])
+        ensures { IfSome (T.output what.now) (λ said. SaysQuoted self.old self.new (λ text. text ≡ subject_text subject ++ line_text said) other.now) }
     {
-        let text = complaint(self.alloc(), place, what);
+        let text = complaint(self.alloc(), subject, what);
         self.say_quoted(text, other);
     }
 
@@ -304,7 +308,7 @@ impl<E: Sink> Errors<E> {
     pub(crate) fn say_refusal(&mut self, refusal: &LineRefusal)
         ensures { SaysRefusal self.old self.new refusal.now }
     {
-        self.say_complaint(Place::Line(refusal.line), &refusal.reason, SCRIPT_REFUSED);
+        self.say_complaint(Subject::Line(refusal.line), &refusal.reason, SCRIPT_REFUSED);
     }
 
     /// Says why a run or a race was refused, if it was.
@@ -333,10 +337,10 @@ impl<E: Sink> Errors<E> {
         match judgement {
             Judgement::Legal(_) => {}
             Judgement::Refused { line, reason } => {
-                self.say_complaint(Place::Line(*line), reason, HISTORY_REFUSED);
+                self.say_complaint(Subject::Line(*line), reason, HISTORY_REFUSED);
             }
             Judgement::FirstBad { number, fault } => {
-                self.say_complaint(Place::Entry(*number), fault, BAD_ENTRY);
+                self.say_complaint(Subject::Entry(*number), fault, BAD_ENTRY);
             }
         }
     }
@@ -350,7 +354,7 @@ impl<E: Sink> Errors<E> {
                     line: *line,
                     reason,
                 };
-                self.say_complaint(Place::Line(*line), &refusal, HISTORY_REFUSED);
+                self.say_complaint(Subject::Line(*line), &refusal, HISTORY_REFUSED);
             }
             _ => self.say_judgement(judgement),
         }
@@ -378,10 +382,10 @@ impl<E: Sink> Errors<E> {
         match judgement {
             Judgement::Legal(_) => {}
             Judgement::Refused { line, reason } => {
-                self.say_complaint(Place::Line(*line), reason, LOG_REFUSED);
+                self.say_complaint(Subject::Line(*line), reason, LOG_REFUSED);
             }
             Judgement::FirstBad { number, fault } => {
-                self.say_complaint(Place::Order(*number), fault, BAD_ENTRY);
+                self.say_complaint(Subject::Order(*number), fault, BAD_ENTRY);
             }
         }
     }
@@ -487,7 +491,7 @@ impl<E: Sink> Errors<E> {
             }
             CurveEnd::ScriptRefused(refusal) => self.say_refusal(refusal),
             CurveEnd::HistoryRefused { line, reason } => {
-                self.say_complaint(Place::Line(*line), reason, HISTORY_REFUSED);
+                self.say_complaint(Subject::Line(*line), reason, HISTORY_REFUSED);
             }
             CurveEnd::HistoryTooLong => {
                 self.say(
@@ -495,7 +499,7 @@ impl<E: Sink> Errors<E> {
                 );
             }
             CurveEnd::LogRefused { line, reason } => {
-                self.say_complaint(Place::Line(*line), reason, LOG_REFUSED);
+                self.say_complaint(Subject::Line(*line), reason, LOG_REFUSED);
             }
         }
     }
