@@ -5,7 +5,7 @@ import shlex
 from collections.abc import Callable
 
 from judge_tests.bench import KIT, PYTHON, TOP, TOYS, JudgeCase
-from judge_tests.faults import C_FAULTS, EXACT_FAULTS, PYTHON_FAULTS, SHELL_FAULTS, Fault
+from judge_tests.faults import C_FAULTS, EXACT_FAULTS, PYTHON_FAULTS, SHELL_FAULTS, SOON, Fault
 from judging.comparing import Kind
 
 
@@ -84,8 +84,7 @@ class PlantedFaults(JudgeCase):
 
     def by_shell(self, line: str, kind: Kind) -> None:
         command = line.format(program=self.bench.program)
-        seconds = "0.6" if kind is Kind.HANG else "10"
-        self.finds(kind, "--seconds", seconds, "--script", "plain1.script", "--", "sh", "-c", command)
+        self.finds(kind, *(SOON if kind is Kind.HANG else ()), "--script", "plain1.script", "--", "sh", "-c", command)
 
     def in_controls(self, expression: str) -> None:
         command = f"{self.bench.program} run | sed -E {shlex.quote(expression)}"

@@ -41,7 +41,8 @@ a new 0 0 1
         self.assertIn("scripts: 3,", self.finds_nothing(*words, "--", *self.bench.toy("semispace")))
 
     def test_the_rule_of_a_file(self) -> None:
-        """A finding has the rule of the file that it came from, also if it is found again by what was kept."""
+        """A finding has the rule of the file that it came from, also if it is found again by what was kept. It has none
+        if shrinking left nothing of what the file shows."""
         fault = C_FAULTS[0]
         rule = "# rule: A shape is what it was,\n# whatever else is.\n"
         words = self.folder("rules", one=self.ANY.replace("# rule: r\n", rule) + "a shape 0\n# shape 0 1\n")
@@ -49,10 +50,20 @@ a new 0 0 1
                               (Kind.DEATH, ["sh", "-c", "exit 3"])):
             for options in (words, ["--script", "kept.script"]):
                 text = self.finds(kind, *options, "--", *program)
-                self.assertTrue(text.startswith("# rule: A shape is what it was, whatever else is.\n"), text)
-                self.assertEqual(text.count("# rule: "), 1)
-                self.assertEqual("# manual: " in text, kind is Kind.DIFFERENCE)
+                is_left = kind is Kind.DIFFERENCE
+                self.assertEqual(text.startswith("# rule: A shape is what it was, whatever else is.\n"), is_left, text)
+                self.assertEqual(text.count("# rule: "), int(is_left))
+                self.assertEqual("# manual: " in text, is_left)
                 self.bench.write("kept.script", text)
+
+    def test_a_rule_of_moving(self) -> None:
+        """It is said of a collector that says of itself that it moves objects, and of no other."""
+        words = self.folder("moving", one=self.ANY.replace("rule: r", "rule: After a move r.") + "* quantum\n# spent 0 "
+                            "phase idle\na shape 0\n# shape 0 1\n")
+        for said, is_apt in (("ok", False), ("moves no", False), ("cycles 1 moves yes", True)):
+            command = f"{self.bench.program} run | sed -e 's/shape 0 1/shape 1 0/' -e 's/^spent .*/{said}/'"
+            text = self.finds(Kind.DIFFERENCE, *words, "--shrink-runs", "1", "--", "sh", "-c", command)
+            self.assertEqual("# rule: After a move r.\n" in text, is_apt, text)
 
     def test_a_folder_of_exact_scripts_judges_nothing_else(self) -> None:
         words = self.folder("exact", one=self.ANY.replace("mark: any", "mark: exact"))

@@ -17,6 +17,9 @@ class Fault:
     scripts: tuple[str, ...] = ("plain1.script", "plain2.script")
 
 
+# Soon a program is taken to hang.
+SOON = ("--seconds", "0.6", "--event-seconds", "0")
+
 # Instead of the answer to whether a slot names what it names.
 WAITING = """while (n[0] == n[1]) {
             extern int pause(void);
@@ -54,9 +57,9 @@ C_FAULTS = [
         return NO_OBJECT;
     enum refusal refusal = find_roots("""),
     Fault("objects_of_one_field_more", "> MOST_FIELDS)", "> MOST_FIELDS + 1)", scripts=("large.script",)),
-    Fault("same_hangs", "strcpy(reply, roots[n[0]] ==", WAITING, Kind.HANG, ("--seconds", "0.6")),
+    Fault("same_hangs", "strcpy(reply, roots[n[0]] ==", WAITING, Kind.HANG, SOON),
     Fault("same_hangs_line_by_line", "strcpy(reply, roots[n[0]] ==", WAITING, Kind.HANG,
-          ("--seconds", "0.6", "--protocol", "live")),
+          (*SOON, "--protocol", "live")),
     Fault("end_aborts", "heap->ended[session] = true;", "abort();", Kind.DEATH),
     Fault("end_exits_line_by_line", "heap->ended[session] = true;", "exit(7);", Kind.DEATH, ("--protocol", "live")),
     Fault("copy_answers_without_end", "    case COPY: case POST: case TAKE:\n", """    case COPY: case POST: case TAKE:

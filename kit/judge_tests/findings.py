@@ -1,13 +1,16 @@
 """Tests of what is made of a finding, and of the limits of shrinking."""
 from __future__ import annotations
 
+import re
 import signal
 import subprocess
 import time
+from unittest import mock
 
 from judge_tests.bench import KEPT, MOST_EVENTS, JudgeCase
 from judge_tests.faults import C_FAULTS
 from judging.comparing import Kind
+from judging.reporting import ADDR_NO_RANDOMIZE, has_steady_addresses
 from judging.scripts import read_case
 
 
@@ -62,6 +65,17 @@ a shape 0
             self.assertIn(f"\n# note: found in {found} of 5 runs of this script: ", done.stdout)
             self.assertIn("`setarch -R`", done.stdout)
 
+    def test_addresses_that_are_the_same(self) -> None:
+        """Whoever keeps them so isn't asked to."""
+        command = f"n=$(cat count); echo $((n + 1)) > count; {self.bench.program} run; [ $((n % 2)) = 1 ]"
+        for program in (["setarch", "-R"], ["env"]):
+            (self.bench.folder / "count").write_text("0")
+            done = self.judge("--script", "exact.script", "--", *program, "sh", "-c", command)
+            self.assertIn("\n# note: found in ", done.stdout)
+            self.assertEqual("`setarch -R`" in done.stdout, program == ["env"], done.stdout)
+        with mock.patch("judging.reporting.personality", lambda: ADDR_NO_RANDOMIZE):
+            self.assertTrue(has_steady_addresses(["cat"]))
+
     def test_a_finding_that_comes_and_goes_is_shrunk_by_asking_again(self) -> None:
         """Each second run has it."""
         command = (f"n=$(cat count); echo $((n + 1)) > count; {self.bench.program} run | "
@@ -81,12 +95,41 @@ a shape 0
         self.assertRegex(done.stdout, rf"\n\.\.\. and \d+ lines with .*\njudge: kept in {KEPT}\n\Z")
         self.assertGreater(len(self.kept().splitlines()), 1000)
 
-    def test_the_head_of_standard_error_is_kept(self) -> None:
-        command = "echo it broke here >&2; yes and so on | head -n 999 >&2; echo the end >&2; exit 3"
+    def test_the_head_and_the_last_line_of_standard_error_are_kept(self) -> None:
+        command = "echo it broke here >&2; yes and so on | head -n 999 >&2; echo the end >&2; echo >&2; exit 3"
         text = self.finds(Kind.DEATH, "--script", "short.script", "--", "sh", "-c", command)
         self.assertIn("\n# standard error: it broke here\n# standard error: and so on\n", text)
         self.assertRegex(text, r"\n# standard error: \.\.\. and \d+ bytes more\n")
-        self.assertNotIn("the end", text)
+        self.assertTrue(text.startswith("# last: the end\n"), text)
+        self.assertNotIn("standard error: the end", text)
+
+    def loud(self) -> list[str]:
+        """A toy that says where it stops."""
+        answer, said = "strcpy(reply, roots[n[0]] ==", r'fputs("a banner\nheap.c:7: is lost\n\n", stderr);'
+        return self.bench.toy("loud", answer, f"{said}\nabort();\n{answer}")
+
+    def test_a_crash_has_its_last_line_first_and_can_be_run_again(self) -> None:
+        text = self.finds(Kind.DEATH, "--script", "short.script", "--", *self.loud())
+        self.assertTrue(text.startswith("# last: heap.c:7: is lost\n# catches: "), text)
+        self.assertNotIn("# note: replies may", text)
+        (below_gdb,) = re.findall("(?m)^# gdb: (.*)", text)
+        (below_valgrind,) = re.findall("(?m)^# valgrind: (.*)", text)
+        alone = below_gdb.replace("gdb -batch -ex run -ex backtrace --args ", "")
+        self.assertEqual(alone, below_valgrind.replace("valgrind --trace-children=yes ", ""))
+        done = subprocess.run(alone, shell=True, cwd=self.bench.folder, capture_output=True, text=True, check=False)
+        self.assertIn(done.returncode, (-signal.SIGABRT, 128 + signal.SIGABRT))
+        self.assertEqual(done.stderr.splitlines()[:2], ["a banner", "heap.c:7: is lost"])
+
+    def test_the_event_of_a_crash(self) -> None:
+        """It is sure by one more run, line by line. Without such a run the last event is taken."""
+        self.bench.write("four.script", "config 4 209 0 0\na new 0 0 1\na same 0 0\na shape 0\na clear 0\n")
+        words = ["--script", "four.script", "--shrink-runs", "1", "--"]
+        text = self.finds(Kind.DEATH, *words, *self.loud())
+        self.assertIn("\n# catches: a crash at event 2 of 4, `a same 0 0`\n", text)
+        self.assertNotIn("# note: replies may have been kept back", text)
+        text = self.finds(Kind.DEATH, *words, "sh", "-c", "cat > it; exit 3")
+        self.assertIn("\n# catches: a crash at event 4 of 4, `a clear 0`\n", "\n" + text)
+        self.assertIn("\n# note: replies may have been kept back, ", text)
 
     def test_where_there_is_no_reply_no_manual_is_quoted(self) -> None:
         for command in ("exit 3", "exit 0"):

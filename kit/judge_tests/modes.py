@@ -5,6 +5,7 @@ import re
 import unittest
 
 from judge_tests.bench import JudgeCase
+from judge_tests.faults import SOON
 from judging.comparing import Judgement, Kind, Reference
 from judging.cycles import Said, said_in
 from judging.modes import modes_of
@@ -58,13 +59,53 @@ class Modes(JudgeCase):
 
 
 class Times(JudgeCase):
-    """How long a program may take for a script."""
+    """How long a program may take for a script, and that a slow one isn't taken to hang."""
+
+    WORDS = ("--script", "few.script", "--script", "few.script", "--script", "few.script")
+    # What answers that script rightly, as often as it comes.
+    RIGHT = "sed -u -e /config/d -e s/.*new.*/ok/ -e s/.*same.*/yes/ -e 's/.*shape.*/shape 0 1/'"
+    ONCE = "mkdir slept && sleep 100"
+    SEVERAL = "tee it | grep -c config | grep -q 2"
+
+    def shell(self, command: str) -> list[str]:
+        """A program, and what it is asked."""
+        self.bench.write("few.script", "config 4 209 0 0\na new 0 0 1\na same 0 0\na shape 0\n")
+        return ["sh", "-c", command]
 
     def test_seconds_for_each_event(self) -> None:
-        words = ["--script", "short.script", "--seconds", "0.3"]
-        slow = ["sh", "-c", f"sleep 0.8; exec {self.bench.program} run"]
-        self.finds_nothing(*words, "--event-seconds", "0.01", "--", *slow)
-        self.finds(Kind.HANG, *words, "--shrink-runs", "300", "--", *slow)
+        words = ["--script", "short.script", "--seconds", "0.2"]
+        slow = ["sh", "-c", f"sleep 2; exec {self.bench.program} run"]
+        self.finds_nothing(*words, "--event-seconds", "0.05", "--", *slow)
+        self.finds(Kind.HANG, *words, "--event-seconds", "0", "--shrink-runs", "300", "--", *slow)
+
+    def test_slow_once(self) -> None:
+        """The second run of a script, or of several, has its answer in time, so there is no finding."""
+        once, several = f"{self.ONCE}; exec {self.RIGHT}", f"{self.SEVERAL} && {self.ONCE}; exec {self.RIGHT} < it"
+        for protocol, command in (("run", once), ("live", once), ("many", once), ("many", several)):
+            self.finds_nothing(*self.WORDS, *SOON, "--protocol", protocol, "--", *self.shell(command))
+            (self.bench.folder / "slept").rmdir()
+
+    def test_slow_always(self) -> None:
+        for protocol in ("run", "live", "many"):
+            text = self.finds(Kind.HANG, *self.WORDS, *SOON, "--protocol", protocol, "--", *self.shell("sleep 100"))
+            self.assertIn("\n# yours: no end within 3 s\n# note: asked twice: the program got 0.15 s, and then 3 s\n",
+                          text)
+
+    def test_a_hang_that_is_not_shrunk(self) -> None:
+        """One whose smaller scripts only take long is kept as it is, as it was asked twice."""
+        slow = self.shell(f"tee it | wc -l | grep -q 4 && exec sleep 100; sleep 1.5; {self.bench.program} run < it")
+        text = self.finds(Kind.HANG, *self.WORDS[:2], "--seconds", "1", "--event-seconds", "0", "--", *slow)
+        self.assertIn("\n# note: asked twice: the program got 1 s, and then 5 s\n# note: smaller scripts were slow, ",
+                      text)
+        self.assertEqual(len(read_case(text).script.events), 3)
+
+    def test_one_that_hangs_behind_others(self) -> None:
+        """It is asked behind them twice too."""
+        slow = self.shell(f"{self.SEVERAL} && exec sleep 100; exec {self.RIGHT} < it")
+        done = self.judge(*self.WORDS, *SOON, "--protocol", "many", "--", *slow)
+        self.assertEqual((done.returncode, done.stderr), (1, ""))
+        self.assertTrue(done.stdout.startswith("judge: a hang in script 2, "), done.stdout)
+        self.assertRegex(done.stdout, r"\n# note: asked twice: the program got [\d.]+ s, and then 6 s\n")
 
 
 class Cycles(JudgeCase):

@@ -4,12 +4,13 @@ from __future__ import annotations
 import unittest
 
 from judge_tests.bench import PYTHON, JudgeCase
+from judge_tests.faults import SOON
 from judging.logs import BadLog, read_log, require_commands
 from judging.ordering import Found, Stopped, Undecided, find_order
 from judging.scripts import read_script
 
 # Logs what the program in its last words answers, each command beside some of others, with a fault: its first word.
-LOGGER = r"""import subprocess, sys
+LOGGER = r"""import subprocess, sys, time
 
 fault, program = sys.argv[1], sys.argv[2:]
 text = sys.stdin.read()
@@ -30,6 +31,8 @@ if fault == "untimed":
     lines[0] = lines[0].partition(" ")[2]
 if fault == "dies":
     sys.exit(3)
+if fault == "hangs":
+    time.sleep(100)
 print("log 1", *lines, sep="\n")
 """
 
@@ -88,6 +91,11 @@ class Threads(JudgeCase):
 
     def test_a_program_that_stops(self) -> None:
         self.finds_in_log("dies", "the program ended with status 3")
+
+    def test_a_program_that_hangs(self) -> None:
+        done = self.judge(*self.words("hangs", *SOON, "--shrink-seconds", "0.1"))
+        self.assertEqual((done.returncode, done.stderr), (1, ""), done.stdout)
+        self.assertIn("judge: no end within 0.6 s, and asked again no end within 3 s\n", done.stdout)
 
 
 class Orders(unittest.TestCase):

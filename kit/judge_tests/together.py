@@ -2,8 +2,10 @@
 from __future__ import annotations
 
 import re
+import subprocess
 
 from judge_tests.bench import PYTHON, JudgeCase
+from judge_tests.faults import SOON
 from judging.comparing import Kind
 
 # Answers such scripts as are made below, one after the other, and has the fault that is its argument.
@@ -12,9 +14,12 @@ ANSWERER = r"""import os, sys, time
 fault = sys.argv[1]
 with open("processes", "a") as file:
     file.write("x")
-for count, script in enumerate(("\n" + sys.stdin.read()).split("\nconfig ")[1:]):
+scripts = ("\n" + sys.stdin.read()).split("\nconfig ")[1:]
+for count, script in enumerate(scripts):
     has_take = " take " in script
-    same = "no" if fault == "no" and has_take or fault == "third" and count == 2 else "yes"
+    is_kept = any(" take " in earlier for earlier in scripts[:count])
+    wrong = {"no": has_take, "third": count == 2, "keep": is_kept and not has_take}
+    same = "no" if wrong.get(fault) else "yes"
     replies = [same if " same " in line else "ok" for line in script.rstrip().split("\n")[1:]]
     if fault == "short" and has_take:
         replies.pop()
@@ -24,7 +29,7 @@ for count, script in enumerate(("\n" + sys.stdin.read()).split("\nconfig ")[1:])
         time.sleep(100)
     elif fault == "stop" and has_take:
         sys.exit(3)
-    elif fault == "lose" and has_take:
+    elif fault == "lose" and has_take or fault == "lose all" and is_kept and " same " in script:
         os._exit(3)
     sys.stdout.writelines(reply + "\n" for reply in replies)
 if fault == "end":
@@ -68,10 +73,10 @@ class Together(JudgeCase):
         self.assertEqual(self.judge(*self.words(fault, "--protocol", "many", *listed)).stdout, one_by_one)
 
     def test_a_hang_in_the_midst(self) -> None:
-        words = self.words("hang", "--tap", "--shrink-runs", "1", "--seconds", "1", "--protocol", "many")
+        words = self.words("hang", "--tap", "--shrink-runs", "1", *SOON, "--protocol", "many")
         done = self.judge(*words[:6], *words[2 * len(NAMES):])
         self.assertEqual(re.findall(r"(?m)^((?:not )?ok) ", done.stdout), ["ok", "ok", "not ok"])
-        self.assertIn("\n    # yours: no reply within 1 s\n", done.stdout)
+        self.assertIn("\n    # yours: no reply within 3 s\n", done.stdout)
 
     def test_processes_get_several_scripts(self) -> None:
         for jobs in ("1", "3"):
@@ -89,11 +94,32 @@ class Together(JudgeCase):
         self.assertEqual((done.returncode, done.stderr), (1, ""))
         self.assertIn("\n# note: found only behind 2 scripts, four.script to five.script, in one process, and not "
                       "alone: ", self.kept())
-        self.assertIn("\n# from: six.script, 6 events, by 0 runs\n", self.kept())
+        self.assertIn("\n# from: six.script, 6 events, by ", self.kept())
+        self.assertTrue(self.kept().endswith("\n\nconfig 1 209 0 0\n\nconfig 1 209 0 0\n\nconfig 1 209 0 0\n\n# here\n"
+                                             "a same 0 0\n# yes\n"), self.kept())
+
+    def again(self, fault: str, *words: str) -> subprocess.CompletedProcess:
+        return self.judge("--conformance", "none", "--seeds", "none", *words, "--", *PYTHON, "answerer.py", fault)
+
+    def test_scripts_that_nothing_needs_are_dropped(self) -> None:
+        """What is left of several is found again in one process, by the file that is kept, and in a folder of such."""
+        for fault, kind in (("keep", Kind.DIFFERENCE), ("lose all", Kind.DEATH)):
+            done = self.judge(*self.words(fault, "--protocol", "many"))
+            self.assertEqual((done.returncode, done.stderr), (1, ""))
+            kept = self.kept()
+            self.assertIn(f"\n# catches: {kind.value} in script 2, at event 1 of 1, `a same 0 0`\n", "\n" + kept)
+            self.assertRegex(kept, r"\n\nconfig \d 209 0 0\na take \d+ \d+\n# ok\n"
+                                   r"\nconfig \d 209 0 0\n\n# here\na same 0 0\n")
+            (self.bench.folder / "several").mkdir(exist_ok=True)
+            self.bench.write("several/kept.script", kept)
+            for words in (["--script", "several/kept.script"], ["--conformance", "several"]):
+                self.assertEqual(self.again(fault, *words, "--protocol", "many").returncode, 1)
+                self.assertIn("script 1, in one process", self.kept())
+                self.assertEqual(self.again("none", *words, "--protocol", "many").returncode, 0)
+            self.assertEqual(self.again(fault, "--script", "several/kept.script").returncode, 2)
 
     def test_one_that_hangs_at_once_ends_soon(self) -> None:
-        done = self.judge("--protocol", "many", "--seeds", "none", "--seconds", "0.5", "--shrink-runs", "1", "--",
-                          "sleep", "100")
+        done = self.judge("--protocol", "many", "--seeds", "none", *SOON, "--shrink-runs", "1", "--", "sleep", "100")
         self.assertIn("\n# catches: a hang ", done.stdout)
 
 

@@ -10,8 +10,9 @@ from collections.abc import Sequence
 from dataclasses import dataclass, field, replace
 
 from judging.modes import Mode
-from judging.programs import WELL, Answer, End, Ending, Limits, Patience, Protocol, ask
+from judging.programs import WELL, Answer, End, Ending, Errors, Limits, Patience, Protocol, ask
 from judging.scripts import CONTROL, HEAP_FULL, BadScript, Case, Event, Script, read_script
+from judging.waiting import EVENT_SECONDS, LONGER, SECONDS, WHOLE, in_seconds
 
 # A program may write twice the bytes of the right replies, and so many more.
 SPARE_BYTES = 1 << 20
@@ -44,14 +45,20 @@ class Finding:
     # The author's reply, or what happened in place of one.
     yours: str
     end: End
-    # The head of what the program wrote to standard error.
-    errors: str = ""
+    # What the program wrote to standard error.
+    errors: Errors = Errors()
     # Whether the program ended well and left events unanswered, so that a reply may be that to another event.
     is_short: bool = False
+    # Of a hang, how many seconds each run got that had it.
+    waited: tuple[float, ...] = ()
 
     def is_like(self, other: Finding) -> bool:
         """Whether both may be one fault. A program that can't do with a smaller heap, say, ends in another way."""
         return self.kind is other.kind and self.end in (other.end, WELL)
+
+    def after(self, first: Finding) -> Finding:
+        """The same, as what a second run has after a first one."""
+        return replace(self, waited=first.waited + self.waited) if self.kind is Kind.HANG else self
 
 
 @dataclass(frozen=True)
@@ -68,8 +75,17 @@ class Judgement:
     right: tuple[str, ...]
     finding: Finding | None
     yours: tuple[str, ...] = ()
-    # How many scripts its process had before it, if the finding came only behind them.
-    behind: int = 0
+    # The scripts that its process got before it, if the finding came only behind them.
+    before: tuple[Asked, ...] = ()
+
+    @property
+    def asked(self) -> Asked:
+        return Asked(self.script, self.right)
+
+    @property
+    def events(self) -> int:
+        """How many events the process got."""
+        return len(self.script.events) + sum(len(it.script.events) for it in self.before)
 
 
 class Reference:
@@ -79,8 +95,8 @@ class Reference:
         self.words = tuple(words)
 
     def require(self) -> None:
-        if shutil.which(self.words[0]) is None:
-            raise NoReference(f"there is no program {self.words[0]}")
+        if not self.words or shutil.which(self.words[0]) is None:
+            raise NoReference(f"there is no program {' '.join(self.words[:1])}")
 
     def output(self, words: Sequence[str], text: str, patience: Patience) -> list[str]:
         """The lines that it writes."""
@@ -126,23 +142,31 @@ class Judge:
     protocol: Protocol
     is_exact: bool
     # How long the author's program may take for a script, and how much more for each of its events.
-    seconds: float
-    event_seconds: float = 0.0
+    seconds: float = SECONDS
+    event_seconds: float = EVENT_SECONDS
     patience: Patience = field(default_factory=Patience)
 
     def in_mode(self, mode: Mode) -> Judge:
         return replace(self, program=mode.program)
 
-    def compare(self, asked: Asked, share: float = 1.0) -> Judgement:
+    def compare(self, asked: Asked, share: float = WHOLE) -> Judgement:
         """Judges a script by a run of the author's program, which gets so much of its time."""
         answer, limits = self.ask([asked], share)
         return Judgement(asked.script, asked.right, self.finding(asked, answer, limits), answer.lines)
+
+    def examine(self, asked: Asked) -> Judgement:
+        """Judges a script. A program that seems to hang is asked once more, and gets longer: it may only be slow."""
+        judged = self.compare(asked)
+        if judged.finding is None or judged.finding.kind is not Kind.HANG:
+            return judged
+        again = self.compare(asked, LONGER)
+        return replace(again, finding=again.finding and again.finding.after(judged.finding))
 
     def time_for(self, events: int) -> float:
         """How long a script of so many events may take."""
         return self.seconds + self.event_seconds * events
 
-    def ask(self, scripts: Sequence[Asked], share: float = 1.0) -> tuple[Answer, Limits]:
+    def ask(self, scripts: Sequence[Asked], share: float = WHOLE) -> tuple[Answer, Limits]:
         """What the author's program answers to scripts that one process gets, and within which limits."""
         counts = [len(asked.right) for asked in scripts]
         size = 2 * sum(len(reply) + 1 for asked in scripts for reply in asked.right) + SPARE_BYTES
@@ -200,12 +224,13 @@ def more_lines(answer: Answer, index: int) -> Finding:
 
 def stop(right: Sequence[str], answer: Answer, limits: Limits) -> Finding | None:
     """How a run ended, if it didn't end well."""
-    index = min(len(right), len(answer.lines))
+    index, waited = min(len(right), len(answer.lines)), ()
     is_complete = index == len(right)
     if answer.end.ending is Ending.FLOODED:
         kind, said = Kind.FLOOD, f"more than {limits.bytes} bytes"
     elif answer.end.ending is Ending.HUNG:
-        kind, said = Kind.HANG, f"no {'end' if is_complete else 'reply'} within {limits.seconds:g} s"
+        kind, said = Kind.HANG, f"no {'end' if is_complete else 'reply'} within {in_seconds(limits.seconds)}"
+        waited = (limits.seconds,)
     elif answer.end != WELL:
         kind, said = Kind.DEATH, death(answer.end.status)
     elif not is_complete:
@@ -215,7 +240,7 @@ def stop(right: Sequence[str], answer: Answer, limits: Limits) -> Finding | None
         kind, said = Kind.FLOOD, f"after the last reply `{answer.rest}`"
     else:
         return None
-    return Finding(kind, index, said, answer.end, answer.errors)
+    return Finding(kind, index, said, answer.end, answer.errors, waited=waited)
 
 
 def death(status: int) -> str:

@@ -7,8 +7,9 @@ from dataclasses import dataclass
 from judging.comparing import Judgement
 
 # The words that an answer may have, each with another behind it: the cycles that were finished since `config`, the
-# commands of sessions since then that came while one was under way, and the phase. Other words are passed over.
-CYCLES, WITHIN, PHASE = "cycles", "within", "phase"
+# commands of sessions since then that came while one was under way, the phase, and whether the collector moves objects.
+# Other words are passed over.
+CYCLES, WITHIN, PHASE, MOVES = "cycles", "within", "phase", "moves"
 IDLE = "idle"
 # So many phases are named at most. A program may answer any word.
 MOST_PHASES = 16
@@ -50,6 +51,12 @@ def plus(one: int | None, other: int | None) -> int | None:
 def words_of(line: str) -> dict[str, str]:
     words = line.split(" ")
     return dict(zip(words[::2], words[1::2]))
+
+
+def says_moves(judged: Judgement) -> bool:
+    """Whether any answer to a control says that objects move."""
+    lines = (line for event, line in zip(judged.script.events, judged.yours) if not event.is_command)
+    return any(words_of(line).get(MOVES) == "yes" for line in lines)
 
 
 def number(word: str | None, before: int | None) -> int | None:

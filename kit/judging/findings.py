@@ -10,8 +10,11 @@ from dataclasses import dataclass
 from judging.comparing import Judge, Judgement
 from judging.manual import Manual
 from judging.outcomes import Outcome
+from judging.placing import sure_place
 from judging.reporting import Report
-from judging.shrinking import Course, Effort, Shrunk, shrink
+from judging.shrinking import Course
+from judging.shrunk import Shrunk, shrink
+from judging.trials import Effort
 
 MANUAL = pathlib.Path(__file__).resolve().parent.parent.parent / "docs/MANUAL.md"
 # How often the smallest script so far is kept.
@@ -25,26 +28,29 @@ class Found:
         self.judge, self.outcome, self.path = judge, outcome, path
         self.effort = Effort(options.shrink_runs, options.shrink_seconds, options.repeat)
         self.kept_at = 0.0
-        self.shrunk = Shrunk(outcome.judged, 0, Course.UNTRIED if outcome.behind else Course.UNDER_WAY)
+        self.place: int | None = None
+        self.shrunk = Shrunk(outcome.judged, 0, Course.UNDER_WAY)
         self.keep(self.report())
 
     def report(self, before: str | None = None) -> Report:
-        return Report(self.judge, self.outcome, self.shrunk, Manual(MANUAL), before)
+        return Report(self.judge, self.outcome, self.shrunk, Manual(MANUAL), before, self.place, self.path)
 
     def keep(self, report: Report) -> None:
         self.path.write_text(report.text(), encoding="utf-8")
         self.kept_at = time.monotonic()
 
     def shrink(self, say: Callable[[str], None]) -> Report:
-        """Makes the script as small as it gets, unless it has its finding only behind others, and keeps it."""
+        """Makes the script, and those that its process needs before it, as small as they get, and keeps them."""
         def notice(judged: Judgement, runs: int) -> None:
-            say(f"{len(judged.script.events)} events left after {runs} runs")
+            say(f"{judged.events} events left after {runs} runs")
             if time.monotonic() - self.kept_at >= KEEP_SECONDS:
                 self.shrunk = Shrunk(judged, runs, Course.UNDER_WAY)
                 self.keep(self.report())
 
-        if not self.outcome.behind:
-            self.shrunk = shrink(self.judge, self.outcome.judged, self.effort, notice)
+        self.shrunk = shrink(self.judge, self.outcome.judged, self.effort, notice)
+        self.keep(self.report())
+        if self.shrunk.course is not Course.STOPPED:
+            self.place = sure_place(self.judge, self.shrunk.judgement)
         report = self.report()
         self.keep(report)
         if self.judge.is_exact:

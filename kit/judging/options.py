@@ -6,13 +6,14 @@ import re
 from collections.abc import Callable
 
 from judging.programs import Protocol
+from judging.waiting import EVENT_SECONDS, LONGER, SECONDS
 
 # What adds an option to a parser.
 Add = Callable[..., argparse.Action]
 # What stands for no scripts of a kind.
 NONE = "none"
 # The profiles that take turns.
-TURNS = ("churn", "lists", "trees", "wide", "large", "frag", "refusals", "mixed", "barriers", "comb", "cycles")
+TURNS = ("churn", "lists", "trees", "wide", "large", "frag", "refusals", "mixed", "barriers", "comb", "fans", "cycles")
 PROFILES = (*TURNS, "race")
 
 
@@ -73,8 +74,10 @@ def add_running(add: Add) -> None:
         "many: a process gets several scripts one after the other, and begins anew at each `config`")
     add("--mode", metavar="WORDS", action="append", default=[], help="judge PROGRAM with these words in the place of a "
         "word {}, or behind its own; may be repeated: scripts with answers are asked in each mode, the others in turn")
-    add("--seconds", metavar="S", type=seconds, default=10.0, help="how long PROGRAM may take for a script (10)")
-    add("--event-seconds", metavar="S", type=some_seconds, default=0.0, help="how much longer for each event of it (0)")
+    add("--seconds", metavar="S", type=seconds, default=SECONDS, help="how long PROGRAM may take for a script "
+        f"({SECONDS:g}); it gets {LONGER:g} times as long in a second run, before a hang is a finding")
+    add("--event-seconds", metavar="S", type=some_seconds, default=EVENT_SECONDS, help="how much longer for each event "
+        f"of it ({EVENT_SECONDS:g})")
     add("--jobs", metavar="N", type=count, default=1, help="how many processes of PROGRAM are asked at once (1)")
 
 

@@ -39,16 +39,17 @@ Batch = Sequence[tuple[int, Source]]
 
 
 def batches(sources: Iterable[Source], most: int) -> Iterator[Batch]:
-    """Scripts that one process gets: of each mode one, then two, four and so on, up to so many."""
-    waiting: dict[Mode, list[tuple[int, Source]]] = {}
+    """Scripts that one process gets: those of a file that has several, and else of each mode one, then two, four and so
+    on, up to so many."""
+    waiting: dict[tuple[Mode, str], list[tuple[int, Source]]] = {}
     sizes: dict[Mode, int] = {}
     for place, source in enumerate(sources):
-        batch = waiting.setdefault(source.mode, [])
+        batch = waiting.setdefault((source.mode, source.file), [])
         batch.append((place, source))
         size = sizes.get(source.mode, 1)
-        if len(batch) == size:
-            sizes[source.mode] = min(2 * size, most)
-            yield waiting.pop(source.mode)
+        if len(batch) == (source.together or size):
+            sizes[source.mode] = size if source.together else min(2 * size, most)
+            yield waiting.pop((source.mode, source.file))
     yield from waiting.values()
 
 
@@ -72,7 +73,7 @@ class Examiner:
         found, count = [], 0
         for place, source, it in ready:
             own = next(judged) if it.asked else None
-            behind = names[count - own.behind:count] if own else ()
+            behind = names[count - len(own.before):count] if own else ()
             count += own is not None
             found.append((place, Outcome(source, it.rule, own, behind)))
             if self.is_enough and found[-1][1].has_finding:

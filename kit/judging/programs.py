@@ -14,9 +14,13 @@ from dataclasses import dataclass
 from typing import IO
 
 CHUNK = 65536
+# The word that begins a configuration, which has no reply.
+CONFIG = b"config "
 # How much of standard error is kept, in bytes and in lines: its head, where a sanitizer says what is wrong and where.
 MOST_ERRORS = 4000
 MOST_ERROR_LINES = 40
+# How many bytes are kept of its end, where a runtime says what it stopped at.
+MOST_LAST = 1000
 # The first and the longest sleep while a program that has closed its output comes to its end.
 FIRST_SLEEP, LONGEST_SLEEP = 0.0005, 0.02
 # How long nothing may come before it is looked whether the run is called off.
@@ -81,12 +85,19 @@ WELL = End(Ending.ENDED)
 
 
 @dataclass(frozen=True)
+class Errors:
+    """What a program wrote to standard error: its head, and its last line that isn't empty."""
+    head: str = ""
+    last: str = ""
+
+
+@dataclass(frozen=True)
 class Answer:
-    """What a program wrote: its lines, what came after the last newline, and the head of its standard error."""
+    """What a program wrote: its lines, what came after the last newline, and to standard error."""
     lines: tuple[str, ...]
     rest: str
     end: End
-    errors: str
+    errors: Errors
 
 
 def decoded(data: bytes) -> str:
@@ -111,6 +122,7 @@ class Child:
         self.lines = 0
         self.errors = bytearray()
         self.unkept_errors = 0
+        self.last_errors = bytearray()
         self.is_open = True
         self.has_input = True
         self.will_close = False
@@ -196,6 +208,7 @@ class Child:
             room = MOST_ERRORS - len(self.errors)
             self.errors += data[:room]
             self.unkept_errors += len(data[room:])
+            self.last_errors = (self.last_errors + data)[-MOST_LAST:]
         elif data is not None:
             self.selector.unregister(self.process.stderr)
 
@@ -233,18 +246,22 @@ class Child:
             self.read_errors()
         return Ending.FLOODED if self.is_flooded else Ending.ENDED
 
-    def said(self) -> str:
-        """The head of standard error, and how much more there was."""
+    def said(self) -> Errors:
+        """The head of standard error with how much more there was, and the last line."""
         head = b"".join(bytes(self.errors).splitlines(keepends=True)[:MOST_ERROR_LINES])
         left = len(self.errors) - len(head) + self.unkept_errors
-        return decoded(head).rstrip("\n") + (f"\n... and {left} bytes more" if left else "")
+        lines = [line for line in decoded(bytes(self.last_errors)).splitlines() if line.strip()]
+        return Errors(decoded(head).rstrip("\n") + (f"\n... and {left} bytes more" if left else ""),
+                      lines[-1] if lines else "")
 
 
 def converse(child: Child, lines: Sequence[bytes]) -> None:
-    """Sends the configuration, and then each event once the one before it was answered."""
-    for count, line in enumerate(lines):
+    """Sends a configuration, and then each event once the one before it was answered."""
+    asked = 0
+    for line in lines:
         child.send(line)
-        if not child.await_lines(count):
+        asked += not line.startswith(CONFIG)
+        if not child.await_lines(asked):
             return
 
 

@@ -3,7 +3,7 @@ from __future__ import annotations
 
 import time
 from collections.abc import Iterable, Iterator
-from dataclasses import dataclass
+from dataclasses import dataclass, replace
 from typing import Union
 
 from judging.comparing import WELL, Reference, ReferenceFailure, death
@@ -11,6 +11,7 @@ from judging.logs import BadLog, Log, read_log, require_commands
 from judging.ordering import Found, Stopped, Undecided, find_order
 from judging.programs import Answer, Ending, Limits, Patience, Protocol, ask
 from judging.scripts import Script
+from judging.waiting import LONGER, WHOLE, in_seconds
 
 # What a log takes at most for each command, beside what it always may have.
 BYTES_OF_A_COMMAND = 200
@@ -57,7 +58,16 @@ class Broken:
         yield self.why
 
 
-Verdict = Union[Legal, Disordered, Open, Broken]
+@dataclass(frozen=True)
+class Hung:
+    """The program didn't end within so many seconds: one of several times, if it was asked again."""
+    waited: tuple[float, ...]
+
+    def text(self) -> Iterator[str]:
+        yield ", and asked again ".join(f"no end within {in_seconds(seconds)}" for seconds in self.waited)
+
+
+Verdict = Union[Legal, Disordered, Open, Broken, Hung]
 
 
 @dataclass(frozen=True)
@@ -66,16 +76,30 @@ class Racing:
     reference: Reference
     program: tuple[str, ...]
     seconds: float
+    event_seconds: float
     most_states: int
 
-    def ask(self, script: Script, patience: Patience) -> Answer:
+    def ask(self, script: Script, share: float) -> tuple[Answer, Limits]:
         count = len(script.events)
-        limits = Limits(self.seconds, count + 1, SPARE_BYTES + BYTES_OF_A_COMMAND * count)
-        return ask(self.program, Protocol.RUN, script.text, limits, patience)
+        seconds = share * (self.seconds + self.event_seconds * count)
+        limits = Limits(seconds, count + 1, SPARE_BYTES + BYTES_OF_A_COMMAND * count)
+        return ask(self.program, Protocol.RUN, script.text, limits, Patience()), limits
 
-    def examine(self, script: Script, patience: Patience | None = None) -> Verdict:
-        answer = self.ask(script, patience or Patience())
-        why = self.stop_of(answer)
+    def examine(self, script: Script) -> Verdict:
+        """Judges a script. A program that seems to hang is asked once more, and gets longer: it may only be slow."""
+        verdict = self.compare(script)
+        return self.confirmed(script, verdict) if isinstance(verdict, Hung) else verdict
+
+    def confirmed(self, script: Script, hung: Hung) -> Verdict:
+        again = self.compare(script, LONGER)
+        return replace(again, waited=hung.waited + again.waited) if isinstance(again, Hung) else again
+
+    def compare(self, script: Script, share: float = WHOLE) -> Verdict:
+        """Judges a script by one run, which gets so much of its time."""
+        answer, limits = self.ask(script, share)
+        if answer.end.ending is Ending.HUNG:
+            return Hung((limits.seconds,))
+        why = stop_of(answer)
         if why:
             return Broken(why)
         try:
@@ -84,16 +108,6 @@ class Racing:
         except BadLog as bad:
             return Broken(str(bad))
         return self.judge(log)
-
-    def stop_of(self, answer: Answer) -> str | None:
-        """How a run ended, if it didn't end well."""
-        if answer.end.ending is Ending.HUNG:
-            return f"no end within {self.seconds:g} s"
-        if answer.end.ending is Ending.FLOODED:
-            return "more output than a log of the script has"
-        if answer.end != WELL:
-            return death(answer.end.status)
-        return f"`{answer.rest}` without a newline" if answer.rest else None
 
     def judge(self, log: Log) -> Verdict:
         found = find_order(log, self.most_states)
@@ -111,6 +125,15 @@ class Racing:
             raise ReferenceFailure(f"check --log says `{' '.join(said)}` of an order that was found")
 
 
+def stop_of(answer: Answer) -> str | None:
+    """How a run ended, if it didn't end well."""
+    if answer.end.ending is Ending.FLOODED:
+        return "more output than a log of the script has"
+    if answer.end != WELL:
+        return death(answer.end.status)
+    return f"`{answer.rest}` without a newline" if answer.rest else None
+
+
 @dataclass
 class Tally:
     """What was judged, and how much of it was a race."""
@@ -121,7 +144,7 @@ class Tally:
 
     def add(self, verdict: Verdict) -> None:
         self.logs += 1
-        if not isinstance(verdict, Broken):
+        if not isinstance(verdict, (Broken, Hung)):
             self.commands += len(verdict.log.commands)
             self.overlapping += verdict.log.overlapping()
         self.open += isinstance(verdict, Open)
@@ -132,7 +155,7 @@ class Tally:
 
 
 def is_finding(verdict: Verdict) -> bool:
-    return isinstance(verdict, (Disordered, Broken))
+    return isinstance(verdict, (Disordered, Broken, Hung))
 
 
 class Reduction:
@@ -152,7 +175,7 @@ class Reduction:
             if self.is_spent:
                 return None
             self.runs += 1
-            verdict = self.racing.examine(script)
+            verdict = self.racing.compare(script)
             if isinstance(verdict, kind):
                 return verdict
         return None
@@ -163,7 +186,13 @@ class Reduction:
             yield script.with_events(events[:first] + events[first + size:])
 
     def reduce(self, script: Script, verdict: Verdict) -> tuple[Script, Verdict]:
-        """A smaller script, and a verdict on it."""
+        """A smaller script, and a verdict on it. One that seemed to hang, and only is slow, isn't taken."""
+        smaller, its = self.smaller(script, verdict)
+        if isinstance(its, Hung) and smaller != script:
+            its = self.racing.confirmed(smaller, its)
+        return (smaller, its) if isinstance(its, type(verdict)) else (script, verdict)
+
+    def smaller(self, script: Script, verdict: Verdict) -> tuple[Script, Verdict]:
         size = len(script.events) // 2
         while size and not self.is_spent:
             smaller = ((piece, self.attempt(piece, type(verdict))) for piece in self.pieces(script, size))

@@ -2,22 +2,30 @@
 from __future__ import annotations
 
 import enum
+import pathlib
+import shlex
 from collections.abc import Iterable, Iterator, Sequence
 from dataclasses import dataclass
 from itertools import zip_longest
 
-from judging.comparing import Judge, Judgement, Kind
+from judging.comparing import Asked, Judge, Judgement, Kind
 from judging.manual import Manual, Rule, rules_of
 from judging.outcomes import Outcome
+from judging.placing import is_sure, likely_place
 from judging.programs import Protocol
+from judging.ruling import is_apt, is_left
 from judging.scripts import RULE, Mark
-from judging.shrinking import Course, Shrunk
+from judging.shrinking import Course
+from judging.shrunk import Shrunk
+from judging.waiting import LONGER, in_seconds
 
 # A dump that is shown beside a script is cut behind so many letters.
 MOST_LETTERS = 4000
 # Of a finding of more lines the terminal gets those above its script alone.
 MOST_LINES = 100
 HERE = "here"
+# What Linux keeps of a process whose addresses aren't random.
+ADDR_NO_RANDOMIZE = 0x0040000
 
 
 class Note(enum.Enum):
@@ -26,16 +34,27 @@ class Note(enum.Enum):
             "more: give it more room, or ask for fewer events")
     SHORT = "yours gave fewer lines than there are events, so this may be its reply to a later one"
     FLUSH = "line by line, each reply has to be flushed"
+    KEPT_BACK = "replies may have been kept back, so it may have stopped at an event before, or as its input ended"
     UNFINISHED = "shrinking came to its limit (--shrink-runs, --shrink-seconds), so a smaller script may do"
     STOPPED = "the judge was stopped while it shrank this, so a smaller script may do"
     UNDER_WAY = "kept while the judge shrank this, so a smaller script may do"
+    SLOW = "smaller scripts were slow, and came to their end: so this one is as it was found"
 
 
-NOTES = {Course.SPENT: Note.UNFINISHED, Course.STOPPED: Note.STOPPED, Course.UNDER_WAY: Note.UNDER_WAY}
-UNSTEADY = ("found in {} of {} runs of this script: the program doesn't answer the same each time. If that is because "
-            "its addresses are others, `setarch -R` before the program keeps them the same")
+NOTES = {Course.SPENT: Note.UNFINISHED, Course.STOPPED: Note.STOPPED, Course.UNDER_WAY: Note.UNDER_WAY,
+         Course.SLOW: Note.SLOW}
+# What a program is run below, to say where it stopped; the first for a hang has to end it.
+GDB = "gdb -batch -ex run -ex backtrace --args"
+BELOW = {Kind.DEATH: (("gdb", GDB), ("valgrind", "valgrind --trace-children=yes")),
+         Kind.HANG: (("gdb", f"timeout -s INT 10 {GDB}"),)}
+WAITED_TWICE = "asked twice: the program got {}, and then {}"
+WAITED_ONCE = ("this script was asked once, and got {}; that from which it is made was asked twice, and got "
+               f"{LONGER:g} times as long the second time")
+UNSTEADY = "found in {} of {} runs of this script: the program doesn't answer the same each time"
+MOVED = "If that is because its addresses are others, `setarch -R` before the program keeps them the same"
+STEADY = "Its addresses are the same, so that may be a clock, a thread or a random number"
 BEHIND = ("found only behind {}, in one process, and not alone: something is kept from one script to the next, or "
-          "`config` doesn't begin anew. So it isn't shrunk")
+          "`config` doesn't begin anew. All scripts that it takes are here, and --protocol many asks them again")
 
 
 def shown(text: str) -> str:
@@ -48,28 +67,34 @@ def shortened(text: str) -> str:
     return text if left <= 0 else f"{text[:MOST_LETTERS]} ... and {left} letters more"
 
 
-def place_of(judged: Judgement, protocol: Protocol) -> int:
-    """The event at which to look. A program that gets the whole script may keep replies back as it stops. Then it is
-    the last event, without which nothing is found."""
-    index, last = judged.finding.index, len(judged.script.events) - 1
-    if protocol is not Protocol.LIVE and judged.finding.kind in (Kind.HANG, Kind.DEATH):
-        return max(index, last)
-    return index
+def has_steady_addresses(program: Sequence[str]) -> bool:
+    """Whether a program's addresses are the same in each run: by its own words, or as those of the judge are."""
+    return any("setarch" in word for word in program) or bool(personality() & ADDR_NO_RANDOMIZE)
 
 
-def notes_of(shrunk: Shrunk, protocol: Protocol, behind: Sequence[str]) -> Iterator[str]:
-    finding, steadiness = shrunk.judgement.finding, shrunk.steadiness
+def personality() -> int:
+    try:
+        return int(pathlib.Path("/proc/self/personality").read_text(encoding="ascii"), 16)
+    except (OSError, ValueError):
+        return 0
+
+
+def notes_of(shrunk: Shrunk, judge: Judge, behind: Sequence[str]) -> Iterator[str]:
+    finding, steadiness, protocol = shrunk.judgement.finding, shrunk.steadiness, judge.protocol
     if finding.kind is Kind.FULL:
         yield Note.FULL.value
+    if finding.kind is Kind.HANG:
+        yield (WAITED_TWICE if len(finding.waited) > 1 else WAITED_ONCE).format(*map(in_seconds, finding.waited))
     if finding.kind is Kind.HANG and protocol is Protocol.LIVE and finding.index == 0:
         yield Note.FLUSH.value
     if finding.is_short:
         yield Note.SHORT.value
-    if behind:
+    if behind and shrunk.judgement.before:
         several = f"{len(behind)} scripts, {behind[0]} to {behind[-1]}"
         yield BEHIND.format(several if len(behind) > 1 else behind[0])
     if not steadiness.is_whole:
-        yield UNSTEADY.format(steadiness.found, steadiness.asked)
+        why = STEADY if has_steady_addresses(judge.program) else MOVED
+        yield f"{UNSTEADY.format(steadiness.found, steadiness.asked)}. {why}"
     if shrunk.course in NOTES:
         yield NOTES[shrunk.course].value
 
@@ -88,8 +113,12 @@ class Report:
     outcome: Outcome
     shrunk: Shrunk
     manual: Manual
-    # The reference's dump just before the event, if it is to be told.
+    # The reference's dump just before the event, if it is to be said.
     before: str | None = None
+    # Where the program stopped, if that is sure.
+    place: int | None = None
+    # The file in which this is kept, if it is.
+    path: pathlib.Path | None = None
 
     @property
     def judged(self) -> Judgement:
@@ -97,14 +126,15 @@ class Report:
 
     @property
     def index(self) -> int:
-        return place_of(self.judged, self.judge.protocol)
+        return likely_place(self.judged, self.judge.protocol) if self.place is None else self.place
 
     def summary(self) -> str:
         """What was found, and where."""
-        events, finding = self.judged.script.events, self.judged.finding
+        events, before = self.judged.script.events, len(self.judged.before)
+        what = self.judged.finding.kind.value + (f" in script {before + 1}," if before else "")
         if self.index == len(events):
-            return f"{finding.kind.value} after the last of {len(events)} events"
-        return f"{finding.kind.value} at event {self.index + 1} of {len(events)}, `{events[self.index].text}`"
+            return f"{what} after the last of {len(events)} events"
+        return f"{what} at event {self.index + 1} of {len(events)}, `{events[self.index].text}`"
 
     def rules(self) -> list[Rule]:
         """The rules of the manual on the event and on the two replies."""
@@ -120,7 +150,9 @@ class Report:
 
     def head(self) -> Iterator[str]:
         finding, right = self.judged.finding, self.judged.right
-        if self.outcome.rule:
+        if finding.kind is not Kind.DIFFERENCE and finding.errors.last:
+            yield f"last: {finding.errors.last}"
+        if self.shows_rule():
             yield f"{RULE}: {self.outcome.rule}"
         for rule in self.rules():
             yield f"manual: {rule.heading}: {self.manual.quote(rule) or 'see docs/MANUAL.md'}"
@@ -137,14 +169,32 @@ class Report:
             yield f"other: {other}"
         if self.before is not None:
             yield f"before: {shortened(self.before)}"
-        yield from (f"note: {note}" for note in notes_of(self.shrunk, self.judge.protocol, self.outcome.behind))
-        yield from (f"standard error: {line}" for line in finding.errors.splitlines())
+        yield from (f"note: {note}" for note in notes_of(self.shrunk, self.judge, self.outcome.behind))
+        if self.place is None and not is_sure(self.judged, self.judge.protocol):
+            yield f"note: {Note.KEPT_BACK.value}"
+        yield from self.commands()
+        yield from (f"standard error: {line}" for line in finding.errors.head.splitlines())
+
+    def shows_rule(self) -> bool:
+        """Whether the rule of the file in which this was found is of this collector, and of what is left."""
+        rule, found = self.outcome.rule, self.outcome.judged
+        is_moving = self.judge.is_exact or is_apt(rule, (found, self.judged))
+        return bool(rule) and is_moving and is_left(found, self.judged)
+
+    def commands(self) -> Iterator[str]:
+        """What asks the program again for a shell, below another that says where it stopped."""
+        if self.path is None:
+            return
+        script = f"grep -Ev '^(#|$)' {shlex.quote(str(self.path))}"
+        for name, words in BELOW.get(self.judged.finding.kind, ()):
+            yield f"{name}: {script} | {words} {shlex.join(self.judge.program)}"
 
     def comments(self) -> list[str]:
         return [f"# {shown(line)}" for line in self.head()]
 
     def body(self) -> list[str]:
-        lines = ["", self.judged.script.config.text]
+        lines = [line for asked in self.judged.before for line in answered(asked)]
+        lines += ["", self.judged.script.config.text]
         for index, (event, reply) in enumerate(zip(self.judged.script.events, self.judged.right)):
             if index == self.index:
                 lines += ["", f"# {HERE}"]
@@ -162,6 +212,12 @@ class Report:
         if len(head) + len(body) > MOST_LINES:
             body = ["", f"... and {len(body)} lines with the script and its replies"]
         return text_of([*head, *body])
+
+
+def answered(asked: Asked) -> list[str]:
+    """A script, with the right reply below each event."""
+    pairs = zip(asked.script.events, asked.right)
+    return ["", asked.script.config.text, *(line for event, reply in pairs for line in (event.text, f"# {reply}"))]
 
 
 def text_of(lines: Iterable[str]) -> str:

@@ -20,8 +20,8 @@ PLAIN_CONTROLS = ("start", "quantum")
 EVENTS_KEPT = 1 << 16
 # The words with a colon that begin the comments above a configuration, in files of `conformance` and in findings.
 RULE = "rule"
-HEADS = (RULE, "manual", "catches", "mark", "mode", "from", "right", "yours", "other", "before", "note",
-         "standard error")
+HEADS = (RULE, "last", "manual", "catches", "mark", "mode", "from", "right", "yours", "other", "before", "note", "gdb",
+         "valgrind", "standard error")
 
 
 class BadScript(Exception):
@@ -179,32 +179,55 @@ class Text:
     below: tuple[tuple[str, ...], ...]
 
 
-def read_text(text: str) -> Text:
-    config, events, head, below, is_below = None, [], [], [], False
+class Reader:
+    """Reads lines of scripts, of which each begins with a configuration."""
+
+    def __init__(self) -> None:
+        self.head: list[str] = []
+        self.scripts: list[tuple[Config, list[Event], list[list[str]]]] = []
+        # Whether a comment stands directly below an event, or below another comment there.
+        self.is_below = False
+
+    def comment(self, text: str) -> None:
+        if not self.scripts:
+            self.head.append(text)
+        elif self.is_below:
+            self.scripts[-1][2][-1].append(text)
+
+    def read(self, line: str) -> None:
+        if line.startswith("#"):
+            self.comment(line[1:].strip())
+            return
+        self.is_below = False
+        if line and (not self.scripts or line.startswith("config ")):
+            self.scripts.append((read_config(line), [], []))
+        elif line:
+            _, events, below = self.scripts[-1]
+            events.append(read_event(line))
+            below.append([])
+            self.is_below = True
+
+
+def read_texts(text: str) -> list[Text]:
+    """The scripts of a text, one or several. The comments above the first are those of each."""
+    reader = Reader()
     for number, line in enumerate(text.split("\n")[:-1], 1):
         try:
-            if line.startswith("#"):
-                if config is None:
-                    head.append(line[1:].strip())
-                elif is_below:
-                    below[-1].append(line[1:].strip())
-            elif not line:
-                is_below = False
-            elif config is None:
-                config = read_config(line)
-            else:
-                events.append(read_event(line))
-                below.append([])
-                is_below = True
+            reader.read(line)
         except BadScript as bad:
             raise BadScript(f"line {number}: {bad}") from None
-    if config is None or not text.endswith("\n"):
+    if not reader.scripts or not text.endswith("\n"):
         raise BadScript("there is no config, or the last line has no newline")
-    return Text(Script(config, tuple(events)), tuple(head), tuple(map(tuple, below)))
+    return [Text(Script(config, tuple(events)), tuple(reader.head), tuple(map(tuple, below)))
+            for config, events, below in reader.scripts]
 
 
 def read_script(text: str) -> Script:
-    return read_text(text).script
+    """The only script of a text."""
+    texts = read_texts(text)
+    if len(texts) > 1:
+        raise BadScript("it has several scripts")
+    return texts[0].script
 
 
 def rule_in(head: Iterable[str]) -> str:
@@ -220,15 +243,24 @@ def rule_in(head: Iterable[str]) -> str:
     return " ".join(found)
 
 
-def read_plain(text: str) -> Case:
-    """A script alone, whatever is said of its replies."""
-    read = read_text(text)
-    return Case(read.script, rule=rule_in(read.head))
+def read_plain(text: str) -> list[Case]:
+    """Scripts alone, whatever is said of their replies."""
+    return [Case(read.script, rule=rule_in(read.head)) for read in read_texts(text)]
+
+
+def read_cases(text: str) -> list[Case]:
+    """The scripts of a file of the folder `conformance`, which has several if it is a finding behind others."""
+    return [case_of(read) for read in read_texts(text)]
 
 
 def read_case(text: str) -> Case:
-    """A script of the folder `conformance`: it has one mark, and directly below each event one line with its reply."""
-    read = read_text(text)
+    """The only script of such a file."""
+    read_script(text)
+    return read_cases(text)[0]
+
+
+def case_of(read: Text) -> Case:
+    """A script with answers: it has one mark, and directly below each event one line with its reply."""
     marks = [line.removeprefix("mark:").strip() for line in read.head if line.startswith("mark:")]
     if marks not in [[mark.value] for mark in Mark]:
         raise BadScript("it has no line `# mark: exact` or `# mark: any`, or several")

@@ -5,16 +5,13 @@ import enum
 import functools
 import itertools
 import string
-import time
 from collections.abc import Callable, Iterator, Mapping, Sequence
-from dataclasses import dataclass, replace
+from dataclasses import replace
 
-from judging.comparing import Finding, Judge, Judgement, Kind
-from judging.programs import CalledOff, Patience
-from judging.scripts import Case, Event, Role, Script
+from judging.comparing import Judgement, Kind
+from judging.scripts import Event, Role, Script
+from judging.trials import Spent, Trials
 
-# A hang is waited for at each run that has it, so these runs get a part of the time.
-SHARE_OF_A_HANG, WHOLE = 0.25, 1.0
 LEAST_QUANTUM = 209
 FIRST_PAGES = (64, 512)
 # Longer scripts have too many pairs of events, and too many numbers that are halved.
@@ -25,41 +22,12 @@ FEW_EVENTS = 12
 HEADERS = (2, 1, 4, 3, 0)
 # Which number of a `new` it is.
 COUNT_OF_NUMBERS = 2
-# How often a finding that comes and goes is asked for.
-MOST_ASKED = 5
-TWICE = 2
-# So much of the time is spared for one more run of the script that is left.
-SPARE_SECONDS = 0.5
 # So many events a script may have to be kept with what was found of it.
 MOST_EVENTS_KEPT = 1000
 # An event, and which of its numbers.
 Place = tuple[int, int]
 # What is called with the smallest script so far, and how many runs were made.
 Notice = Callable[[Judgement, int], None]
-
-
-class Spent(Exception):
-    """The effort has come to its end."""
-
-
-@dataclass(frozen=True)
-class Effort:
-    """How many runs of the author's program shrinking takes at most, how long, and how often a script is asked that
-    hasn't the finding."""
-    runs: int
-    seconds: float
-    repeat: int = 1
-
-
-@dataclass(frozen=True)
-class Steadiness:
-    """In how many runs of one script its finding came. The first of them is that in which it was found."""
-    found: int = 1
-    asked: int = 1
-
-    @property
-    def is_whole(self) -> bool:
-        return self.found == self.asked
 
 
 class Course(enum.Enum):
@@ -69,57 +37,8 @@ class Course(enum.Enum):
     SPENT = "it came to its limit"
     STOPPED = "it was stopped"
     LEFT_OUT = "the finding didn't come again"
+    SLOW = "smaller scripts were slow, and came to their end"
     UNTRIED = "it wasn't begun"
-
-
-# Nothing is spared for a last run.
-NOTHING_SPARED = Effort(0, 0)
-
-
-class Trials:
-    """Runs of the author's program for one finding: none is begun, and none goes on, beyond the effort."""
-
-    def __init__(self, judge: Judge, found: Judgement, effort: Effort) -> None:
-        self.judge, self.goal, self.effort = judge, found.finding, effort
-        self.runs = 0
-        self.deadline = time.monotonic() + effort.seconds
-        # A last run of the script that is left, which a hang makes long.
-        hang = judge.time_for(len(found.right)) if self.goal.kind is Kind.HANG else 0
-        self.spare = Effort(1, min(hang + SPARE_SECONDS, effort.seconds / 2))
-
-    def require(self, spare: Effort) -> float:
-        """The time at which a run has to end, if what is spared is to be left."""
-        until = self.deadline - spare.seconds
-        if self.runs + spare.runs >= self.effort.runs or time.monotonic() >= until:
-            raise Spent
-        return until
-
-    def examine(self, script: Script, share: float, times: int = 1, spare: Effort = NOTHING_SPARED) -> Judgement | None:
-        """The judgement of a script by one more run, or up to so many, once it has a finding like the first one."""
-        judge = replace(self.judge, patience=Patience(self.require(spare)))
-        try:
-            asked = judge.prepared(Case(script))
-            for _ in range(times):
-                self.require(spare)
-                self.runs += 1
-                judged = judge.compare(asked, share)
-                if judged.finding is not None and judged.finding.is_like(self.goal):
-                    return judged
-        except CalledOff:
-            raise Spent from None
-        return None
-
-    def again(self, found: Judgement, least: int = TWICE, most: int = MOST_ASKED) -> tuple[Judgement, Steadiness]:
-        """Asks a script again, so often in all. If it hasn't the finding each time, it is asked some more times."""
-        steadiness = Steadiness()
-        try:
-            while steadiness.asked < (least if steadiness.is_whole else most):
-                judged = self.examine(found.script, WHOLE)
-                steadiness = Steadiness(steadiness.found + (judged is not None), steadiness.asked + 1)
-                found = judged or found
-        except Spent:
-            pass
-        return found, steadiness
 
 
 class Shrinker:
@@ -215,15 +134,11 @@ class Shrinker:
             if is_lower and self.attempt(self.with_pages(pages)):
                 return
 
+    def count(self) -> int:
+        return len(self.script.events)
+
     def drop(self, drop_each: Callable[[int], None]) -> None:
-        """Drops events by halves, quarters and so on, down to single ones, until none can be dropped."""
-        size = max(1, len(self.script.events) // 2)
-        while True:
-            before = self.script
-            drop_each(size)
-            if size == 1 and self.script == before:
-                return
-            size = max(1, size // 2)
+        by_halves(self.count, drop_each)
 
     def drop_forward(self, size: int) -> None:
         """Drops so many events at once, from the first on."""
@@ -234,11 +149,7 @@ class Shrinker:
 
     def drop_backward(self, size: int) -> None:
         """Drops so many events at once, from the last on."""
-        end = len(self.script.events)
-        while end > 0:
-            first = max(0, end - size)
-            self.attempt(self.without(first, end))
-            end = min(first, len(self.script.events))
+        backward(size, self.count, lambda first, end: self.attempt(self.without(first, end)))
 
     def without(self, first: int, end: int) -> Script:
         events = self.script.events
@@ -348,6 +259,26 @@ class Shrinker:
         return self.script.with_events(events)
 
 
+def by_halves(count: Callable[[], int], drop_each: Callable[[int], None]) -> None:
+    """Drops by halves, quarters and so on, down to single ones, until none can be dropped."""
+    size = max(1, count() // 2)
+    while True:
+        before = count()
+        drop_each(size)
+        if size == 1 and count() == before:
+            return
+        size = max(1, size // 2)
+
+
+def backward(size: int, count: Callable[[], int], attempt: Callable[[int, int], object]) -> None:
+    """Tries to drop so many at once, from the last on."""
+    end = count()
+    while end > 0:
+        first = max(0, end - size)
+        attempt(first, end)
+        end = min(first, count())
+
+
 def nearest_news(events: Sequence[Event], index: int) -> list[int]:
     """Where the last `new` before an event is, and the first one behind it."""
     sides = (range(index - 1, -1, -1), range(index + 1, len(events)))
@@ -375,42 +306,3 @@ def groups(script: Script) -> list[dict[int, list[Place]]]:
             key = (role, event.who if role is Role.SLOT else "")
             found.setdefault(key, {}).setdefault(value, []).append((index, position))
     return list(found.values())
-
-
-@dataclass(frozen=True)
-class Shrunk:
-    """The smallest script that was found, and what is known of it."""
-    judgement: Judgement
-    runs: int
-    course: Course
-    steadiness: Steadiness = Steadiness()
-
-
-def shares(goal: Finding, is_steady: bool, effort: Effort) -> tuple[float, ...]:
-    """Which share of its time each run may take while a finding is shrunk. A hang is tried with a part of the time
-    first. What comes and goes is shrunk only if scripts are asked repeatedly."""
-    if goal.kind is Kind.HANG and is_steady:
-        return (SHARE_OF_A_HANG, WHOLE)
-    return (WHOLE,) if is_steady or effort.repeat > 1 else ()
-
-
-def shrink(judge: Judge, found: Judgement, effort: Effort, notice: Notice) -> Shrunk:
-    """Shrinks what is found. A hang that is none with all its time is shrunk again with all of it. Ends with the
-    smallest script so far once the effort is spent, or the judge is stopped."""
-    trials = Trials(judge, found, effort)
-    shrinker, course = Shrinker(trials, found, WHOLE, notice), Course.LEFT_OUT
-    try:
-        best, steadiness = trials.again(found)
-        is_steady = steadiness.is_whole
-        for share in shares(found.finding, is_steady, effort):
-            shrinker = Shrinker(trials, found, share, notice)
-            course = shrinker.shrink()
-            if shrinker.smallest is found:
-                break
-            most = MOST_ASKED if share == WHOLE else TWICE
-            best, steadiness = trials.again(shrinker.smallest, TWICE if is_steady else most, most)
-            if steadiness.is_whole:
-                break
-    except KeyboardInterrupt:
-        return Shrunk(shrinker.smallest, trials.runs, Course.STOPPED)
-    return Shrunk(best, trials.runs, course, steadiness)

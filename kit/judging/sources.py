@@ -10,7 +10,8 @@ from dataclasses import dataclass
 from judging.comparing import Asked, Judge, Reference, ReferenceFailure
 from judging.modes import Mode
 from judging.options import NONE, TURNS, Usage
-from judging.scripts import Case, Mark, read_case, read_file, read_plain
+from judging.programs import Protocol
+from judging.scripts import Case, Mark, read_cases, read_file, read_plain
 
 DEFAULT_SEEDS = range(1, 21)
 # So large a heap is never full, or nearly never; where it is, a script ends.
@@ -36,6 +37,9 @@ class Source:
     name: str
     mode: Mode
     prepare: Callable[[Judge], Prepared]
+    # The file of several scripts that this is one of, if it is, and of how many.
+    file: str = ""
+    together: int = 0
 
     @property
     def title(self) -> str:
@@ -63,26 +67,45 @@ class Seeded:
 
 
 @dataclass(frozen=True)
+class Given:
+    """The scripts of a file. If there are several one process gets them all, and no others."""
+    name: str
+    cases: Sequence[Case]
+
+    def sources(self, mode: Mode, prepares: Sequence[Callable[[Judge], Prepared]]) -> Iterator[Source]:
+        if len(prepares) == 1:
+            yield Source(self.name, mode, prepares[0])
+            return
+        for number, prepare in enumerate(prepares, 1):
+            yield Source(f"{self.name}, script {number}", mode, prepare, self.name, len(prepares))
+
+
+@dataclass(frozen=True)
 class Sources:
     """Scripts that are there, each in all modes, and then those that are generated."""
-    given: Sequence[tuple[str, Case]]
+    given: Sequence[Given]
     seeded: Seeded
     modes: Sequence[Mode]
 
     def __len__(self) -> int:
-        return len(self.given) * len(self.modes) + len(self.seeded.seeds)
+        return sum(len(it.cases) for it in self.given) * len(self.modes) + len(self.seeded.seeds)
 
     def __iter__(self) -> Iterator[Source]:
-        for name, case in self.given:
-            # It is prepared once for all modes.
-            prepare = functools.lru_cache(functools.partial(prepared, case))
-            yield from (Source(name, mode, prepare) for mode in self.modes)
+        for it in self.given:
+            # Each script is prepared once for all modes.
+            prepares = [functools.lru_cache(functools.partial(prepared, case)) for case in it.cases]
+            for mode in self.modes:
+                yield from it.sources(mode, prepares)
         yield from (self.seeded.source(seed, self.modes) for seed in self.seeded.seeds)
 
-    def require(self) -> None:
+    def require(self, protocol: Protocol) -> None:
         """What can't be asked for is known before any script is judged."""
         if not len(self):
             raise Usage("there is no script to judge by")
+        several = [it.name for it in self.given if len(it.cases) > 1]
+        if several and protocol is not Protocol.MANY:
+            raise Usage(f"{several[0]} has several scripts, which one process gets: ask it by --protocol "
+                        f"{Protocol.MANY.value}")
         reference = self.seeded.reference
         try:
             if self.seeded.seeds:
@@ -102,18 +125,23 @@ def conformance_folders(options: argparse.Namespace, default: pathlib.Path) -> l
     return folders
 
 
-def conformance_cases(folder: pathlib.Path) -> list[tuple[str, Case]]:
+def conformance_files(folder: pathlib.Path) -> list[Given]:
     paths = sorted(folder.rglob("*.script"), key=lambda path: path.relative_to(folder).parts)
-    return [(path.relative_to(folder).as_posix(), read_file(path, read_case)) for path in paths]
+    return [Given(path.relative_to(folder).as_posix(), read_file(path, read_cases)) for path in paths]
+
+
+def conformance_cases(folder: pathlib.Path) -> list[tuple[str, Case]]:
+    """The scripts of such files, with their names."""
+    return [(it.name, case) for it in conformance_files(folder) for case in it.cases]
 
 
 def sources_of(options: argparse.Namespace, reference: Reference, conformance: pathlib.Path,
                modes: Sequence[Mode]) -> Sources:
     """All scripts that are asked for. Files are read at once, so that a bad one is known before any is judged."""
     try:
-        given = [(name, read_file(pathlib.Path(name), read_plain)) for name in options.script]
+        given = [Given(name, read_file(pathlib.Path(name), read_plain)) for name in options.script]
         folders = conformance_folders(options, conformance)
-        stated = [case for folder in folders for case in conformance_cases(folder)]
+        stated = [it for folder in folders for it in conformance_files(folder)]
     except OSError as error:
         raise Usage(f"{error.filename}: {error.strerror}") from None
     seeds = options.seeds

@@ -10,7 +10,7 @@ from judging.comparing import Reference
 from judging.modes import Mode
 from judging.options import Usage
 from judging.racing import Disordered, Racing, Reduction, Tally, Verdict, is_finding
-from judging.scripts import Script, read_file, read_plain
+from judging.scripts import Script, read_file, read_script
 from judging.sources import DEFAULT_SEEDS, MOST_PAGES
 
 # The profile of scripts whose sessions share objects.
@@ -25,7 +25,7 @@ def scripts_of(options: argparse.Namespace, reference: Reference) -> Iterator[tu
     """The scripts that are given, and those that are generated, without their controls."""
     try:
         for name in options.script:
-            yield name, commands_alone(read_file(pathlib.Path(name), read_plain).script)
+            yield name, commands_alone(read_file(pathlib.Path(name), read_script))
     except OSError as error:
         raise Usage(f"{error.filename}: {error.strerror}") from None
     seeds = options.seeds
@@ -55,7 +55,7 @@ def judge_threads(options: argparse.Namespace, reference: Reference, modes: Sequ
     """Judges logs up to the first finding, and says whether there is one. Scripts take turns at the modes."""
     tally = Tally()
     for mode, (name, script) in zip(itertools.cycle(modes), scripts_of(options, reference)):
-        racing = Racing(reference, mode.program, options.seconds, options.most_states)
+        racing = Racing(reference, mode.program, options.seconds, options.event_seconds, options.most_states)
         verdict = racing.examine(script)
         tally.add(verdict)
         if is_finding(verdict):

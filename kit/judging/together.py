@@ -2,15 +2,81 @@
 from __future__ import annotations
 
 from collections.abc import Iterator, Sequence
-from dataclasses import replace
+from dataclasses import dataclass, replace
 
-from judging.comparing import Asked, Judge, Judgement
+from judging.comparing import Asked, Finding, Judge, Judgement, Kind
 from judging.programs import WELL, Answer, Ending, Limits
+from judging.waiting import LONGER, WHOLE
+
+# What is found at a reply, so that it is known which script has it.
+AT_A_REPLY = (Kind.DIFFERENCE, Kind.FULL)
 
 
-def is_whole(answer: Answer, limits: Limits) -> bool:
-    """Whether a process ended well, with a line for each event. Else it isn't sure which line is whose."""
-    return answer.end == WELL and not answer.rest and len(answer.lines) == limits.lines
+@dataclass(frozen=True)
+class Together:
+    """What one process answered to several scripts, and a judgement of each up to where it stopped."""
+    scripts: Sequence[Asked]
+    answer: Answer
+    limits: Limits
+    judged: Sequence[Judgement]
+
+    @property
+    def is_whole(self) -> bool:
+        """Whether the process ended well, with a line for each event. Else it isn't sure which line is whose."""
+        return self.answer.end == WELL and not self.answer.rest and len(self.answer.lines) == self.limits.lines
+
+    @property
+    def is_hung(self) -> bool:
+        return self.answer.end.ending is Ending.HUNG
+
+    @property
+    def place(self) -> int:
+        """That of the first script with a finding."""
+        return next(place for place, it in enumerate(self.judged) if it.finding)
+
+    @property
+    def suspect(self) -> Judgement:
+        return self.judged[self.place]
+
+    @property
+    def has_stopped(self) -> bool:
+        """Whether the process ended, or hung, in the midst of a script. Then its lines before are those of others."""
+        is_cut = self.is_hung or self.answer.end.status != 0
+        return is_cut and self.suspect.finding.index < len(self.suspect.right)
+
+
+def ask_together(judge: Judge, scripts: Sequence[Asked], share: float = WHOLE) -> Together:
+    answer, limits = judge.ask(scripts, share)
+    return Together(scripts, answer, limits, list(cut(judge, scripts, answer, limits)))
+
+
+def compare_series(judge: Judge, scripts: Sequence[Asked], share: float = WHOLE) -> Judgement:
+    """What is found of several scripts that one process gets, as that of the first that has a finding. If replies may
+    have been kept back it is that of the last."""
+    together = ask_together(judge, scripts, share)
+    found = next((it for it in together.judged if it.finding), None)
+    if found is None:
+        return replace(together.judged[-1], before=tuple(scripts[:-1]))
+    if together.is_whole or found.finding.kind in AT_A_REPLY or together.place == len(scripts) - 1:
+        return replace(found, before=tuple(scripts[:together.place]))
+    return of_last(scripts, found.finding)
+
+
+def of_last(scripts: Sequence[Asked], finding: Finding) -> Judgement:
+    """A finding of which it isn't known how far the process came, as that of its last script."""
+    return Judgement(scripts[-1].script, scripts[-1].right, replace(finding, index=0), before=tuple(scripts[:-1]))
+
+
+def compare_among(judge: Judge, before: Sequence[Asked], asked: Asked, after: Sequence[Asked],
+                  share: float = WHOLE) -> Judgement:
+    """Judges a script among others that its process gets. What is found of another is at no event of its own."""
+    if not before and not after:
+        return judge.compare(asked, share)
+    together = ask_together(judge, [*before, asked, *after], share)
+    found = next((it for it in together.judged if it.finding), None)
+    if found is None or together.place == len(before):
+        return found or Judgement(asked.script, asked.right, None)
+    return Judgement(asked.script, asked.right, replace(found.finding, index=len(asked.right)))
 
 
 def cut(judge: Judge, scripts: Sequence[Asked], answer: Answer, limits: Limits) -> Iterator[Judgement]:
@@ -41,39 +107,57 @@ def examine_together(judge: Judge, scripts: Sequence[Asked]) -> Iterator[Judgeme
 
 def examine_batch(judge: Judge, scripts: Sequence[Asked]) -> Iterator[Judgement]:
     """Judgements by one process, up to where it stopped. What is found counts as the script has it alone."""
-    answer, limits = judge.ask(scripts)
-    judged = list(cut(judge, scripts, answer, limits))
     if len(scripts) == 1:
-        yield from judged
+        yield judge.examine(scripts[0])
         return
-    if is_whole(answer, limits):
-        for number, (asked, it) in enumerate(zip(scripts, judged)):
-            yield confirmed(judge, asked, it, number) if it.finding else it
+    together = ask_together(judge, scripts)
+    if together.is_whole:
+        yield from each_confirmed(judge, together)
         return
-    number, suspect = next((number, it) for number, it in enumerate(judged) if it.finding)
-    alone = judge.compare(scripts[number]) if has_stopped(answer, suspect) else None
+    alone = judge.examine(scripts[together.place]) if together.has_stopped else None
     if alone and alone.finding:
-        yield from (*judged[:number], alone)
+        yield from (*together.judged[:together.place], alone)
+    elif together.is_hung:
+        yield from examine_longer(judge, together)
     else:
-        yield from each_alone(judge, scripts, suspect, number)
+        yield from each_alone(judge, together, together.suspect.finding)
 
 
-def has_stopped(answer: Answer, suspect: Judgement) -> bool:
-    """Whether a process ended, or hung, in the midst of a script. Then its lines before are those of other scripts."""
-    is_cut = answer.end.ending is Ending.HUNG or answer.end.status != 0
-    return is_cut and suspect.finding.index < len(suspect.right)
+def examine_longer(judge: Judge, hung: Together) -> Iterator[Judgement]:
+    """Judgements by another process, which gets longer than one that seemed to hang. It may only be slow."""
+    together = ask_together(judge, hung.scripts, LONGER)
+    if together.is_whole:
+        yield from each_confirmed(judge, together)
+    else:
+        yield from each_alone(judge, together, together.suspect.finding.after(hung.suspect.finding))
 
 
-def confirmed(judge: Judge, asked: Asked, together: Judgement, behind: int) -> Judgement:
-    """What a script has alone, or else what it had behind so many others."""
-    alone = judge.compare(asked)
-    return alone if alone.finding else replace(together, behind=behind)
+def each_confirmed(judge: Judge, together: Together) -> Iterator[Judgement]:
+    """Judgements of scripts of which it is sure which line is whose."""
+    for place, it in enumerate(together.judged):
+        yield confirmed(judge, together, place) if it.finding else it
 
 
-def each_alone(judge: Judge, scripts: Sequence[Asked], suspect: Judgement, behind: int) -> Iterator[Judgement]:
+def confirmed(judge: Judge, together: Together, place: int) -> Judgement:
+    """What a script has alone, or else what it had behind others."""
+    alone = judge.examine(together.scripts[place])
+    return alone if alone.finding else replace(together.judged[place], before=tuple(together.scripts[:place]))
+
+
+def each_alone(judge: Judge, together: Together, suspected: Finding) -> Iterator[Judgement]:
     """What scripts have alone, or else what one of them had behind others. A line too many, one that is missing, or one
     that was kept back as the program ended may be that of any script."""
-    judged = [judge.compare(asked) for asked in scripts]
+    judged = [judge.examine(asked) for asked in together.scripts]
     if not any(it.finding for it in judged):
-        judged[behind] = replace(suspect, behind=behind)
+        found = behind_others(judge, together, suspected)
+        judged[len(found.before)] = found
     yield from judged
+
+
+def behind_others(judge: Judge, together: Together, suspected: Finding) -> Judgement:
+    """What no script has alone. If those up to the suspect don't have it either, it is said of the last."""
+    up_to = together.scripts[:together.place + 1]
+    again = compare_series(judge, up_to).finding if len(up_to) > 1 and suspected.kind not in AT_A_REPLY else None
+    if suspected.kind in AT_A_REPLY or again and again.is_like(suspected):
+        return replace(together.suspect, finding=suspected, before=tuple(up_to[:-1]))
+    return of_last(together.scripts, suspected)

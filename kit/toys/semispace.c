@@ -213,7 +213,7 @@ static uint64_t session_of(struct heap *heap, const char *name)
 static void control(struct heap *heap, const char *word)
 {
     if (strcmp(word, "quantum") == 0)
-        printf("spent %" PRIu64 " phase idle\n", collect(heap));
+        printf("spent %" PRIu64 " phase idle moves yes\n", collect(heap));
     else if (strcmp(word, "stat") == 0)
         printf("used %" PRIu64 " of %" PRIu64 "\n", heap->top - 1, heap->words - 1);
     else

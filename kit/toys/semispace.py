@@ -126,7 +126,7 @@ def command(heap: Heap, session: int, word: str, numbers: list[int]) -> str:
 def control(heap: Heap, word: str) -> str:
     """The reply to a control, where any line will do. Here a quantum is a whole cycle."""
     if word == "quantum":
-        return f"spent {heap.collect()} phase idle"
+        return f"spent {heap.collect()} phase idle moves yes"
     return f"used {heap.top - 1} of {len(heap.space) - 1}" if word == "stat" else "ok"
 
 
