@@ -90,7 +90,7 @@ public final class Adapter {
         if (word.equals("quantum")) {
             quantum();
         }
-        return "cycles " + (cycles() - cyclesBefore) + (isAlways ? " within " + within : "");
+        return "cycles " + (cycles() - cyclesBefore) + (isAlways ? " within " + within : "") + " moves yes";
     }
 
     private String answer(String[] words) {

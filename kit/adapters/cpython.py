@@ -5,8 +5,8 @@
 After each EVERY commands (1) GENERATION (0) and those younger are collected. With `automatic` the collector comes by
 itself after each few new objects. PYTHONMALLOC=debug in the environment poisons what is freed, and looks at it.
 
-Objects keep their references in seven ways, by their birth: each has a function of its own that leads the collector
-through them. Numbers are objects, most of them not shared.
+Objects keep their references in many ways, by their birth (cpython_keepers.py). Numbers are objects, most of them not
+shared.
 
 Cycles are the collections of all generations that gc.get_stats counts. No command falls within one: the collector stops
 the program, so neither that nor a phase is said.
@@ -15,8 +15,11 @@ from __future__ import annotations
 
 import gc
 import sys
-from collections import OrderedDict, deque
-from types import CellType
+
+# No caches in the folder of the kit.
+sys.dont_write_bytecode = True
+
+from cpython_keepers import keeper
 
 SESSIONS, SLOTS = 8, 16
 MOST_FIELDS = 216_000
@@ -32,65 +35,15 @@ class Refused(Exception):
     """A command is refused, with the number and the words of its reason. Nothing was changed."""
 
 
-class Cells:
-    """References in the cells that closures have for their variables."""
-
-    def __init__(self, count: int) -> None:
-        self.cells = tuple(CellType(None) for _ in range(count))
-
-    def __getitem__(self, index: int) -> object:
-        return self.cells[index].cell_contents
-
-    def __setitem__(self, index: int, value: object) -> None:
-        self.cells[index].cell_contents = value
-
-
-class Attributes:
-    """References in the attributes of an instance."""
-
-    def __getitem__(self, index: int) -> object:
-        return getattr(self, f"field{index}", None)
-
-    def __setitem__(self, index: int, value: object) -> None:
-        setattr(self, f"field{index}", value)
-
-
-class Copied:
-    """References in a tuple, which is made anew for each that is stored."""
-
-    def __init__(self, count: int) -> None:
-        self.items = (None,) * count
-
-    def __getitem__(self, index: int) -> object:
-        return self.items[index]
-
-    def __setitem__(self, index: int, value: object) -> None:
-        self.items = (*self.items[:index], value, *self.items[index + 1:])
-
-
-KEEPERS = (
-    lambda count: [None] * count,
-    lambda count: dict.fromkeys(range(count)),
-    lambda count: deque([None] * count),
-    lambda count: OrderedDict.fromkeys(range(count)),
-    Cells,
-    lambda count: Attributes(),
-    Copied,
-)
-# Of more references a list has all: the other ways are slow there.
-FEW = 300
-
-
 class Item:
     """An object of a script."""
     births = 0
 
     def __init__(self, references: int, numbers: int) -> None:
-        keeper = KEEPERS[Item.births % len(KEEPERS) if references <= FEW else 0]
-        Item.births += 1
         self.count = references
         self.numbers = [0] * numbers
-        self.references = keeper(references)
+        self.references = keeper(Item.births, references)
+        Item.births += 1
 
 
 class Run:
@@ -101,6 +54,7 @@ class Run:
         self.names = {}
         self.ended = set()
         self.cycles_before = cycles()
+        Item.births = 0
 
     def command(self, session: int, word: str, operands: list[int]) -> str:
         """The reply to a command. It is refused by the first reason that holds, in the order 7, 6, 1, 2, 3, 4."""

@@ -10,6 +10,7 @@
 #include <string.h>
 
 enum { MOST_FIELDS = 216000, NAME = 17 };
+static const char BLANKS[] = " \n";
 
 /* Of each command what its words are: a slot of the session (s), one of them that has to name an object (o), a slot of
 ** the board (b), a reference (r) or a number (n) of that object, or anything else (-).
@@ -51,6 +52,14 @@ unsigned long number_asked(unsigned long otherwise)
     while (*at != NULL && strspn(*at, "0123456789") == 0)
         at++;
     return *at != NULL ? strtoul(*at, NULL, 10) : otherwise;
+}
+
+const char *path_asked(void)
+{
+    char **at = words;
+    while (*at != NULL && strchr(*at, '/') == NULL)
+        at++;
+    return *at;
 }
 
 /* Turns the slots of a command into roots. Says no if there is no such slot. */
@@ -176,6 +185,8 @@ static void control(const char *word)
     printf("cycles %" PRIu64, progress.cycles - run.cycles_before);
     if (progress.is_stepwise)
         printf(" within %" PRIu64 " phase %s", run.within, progress.is_under_way ? "collecting" : "idle");
+    if (progress.is_moving)
+        printf(" moves yes");
     putchar('\n');
 }
 
@@ -196,10 +207,12 @@ int main(int argc, char **argv)
     heap_open();
     setvbuf(stdout, NULL, _IOLBF, 0);
     while (getline(&line, &room, stdin) > 0) {
-        char who[NAME], word[NAME];
         uint64_t o[3] = {0};
-        if (sscanf(line, "%16s %16s %" SCNu64 " %" SCNu64 " %" SCNu64, who, word, o, o + 1, o + 2) < 2)
+        const char *who = strtok(line, BLANKS), *word = strtok(NULL, BLANKS), *number;
+        if (who == NULL || word == NULL || strlen(who) >= NAME)
             fail("no event");
+        for (int i = 0; i < 3 && (number = strtok(NULL, BLANKS)) != NULL; i++)
+            o[i] = strtoull(number, NULL, 10);
         if (strcmp(who, "config") == 0) {
             begin_anew();
         } else if (strcmp(who, "*") == 0) {

@@ -16,16 +16,21 @@ struct progress {
     uint64_t cycles;
     bool is_stepwise;
     bool is_under_way;
+    /* Whether it moves objects. */
+    bool is_moving;
 };
 
-/* Of front.c: whether a word is among those of the command line, and what the first number among them is. */
+/* Of front.c: whether a word is among those of the command line, what the first number among them is, and the first
+** path, which is a word with a slash, or NULL.
+*/
 bool is_asked(const char *word);
 unsigned long number_asked(unsigned long otherwise);
+const char *path_asked(void);
 
 /* Of the adapter. */
 void heap_open(void);
 void heap_close(void);
-/* Forgets what it counted of objects and commands, as a script begins. */
+/* Forgets what it counted of objects and commands, as a script begins. All roots were cleared before. */
 void heap_begin(void);
 /* Says no if there is no memory. */
 bool heap_make(int root, uint64_t references, uint64_t numbers);
@@ -44,6 +49,7 @@ void heap_start(void);
 void heap_quantum(void);
 /* What the mode asks for after each command. */
 void heap_step(void);
+/* It is asked for before each command. */
 struct progress heap_progress(void);
 
 #endif

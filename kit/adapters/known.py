@@ -1,12 +1,24 @@
 """The adapters of kit/adapters: how each is built and run, and its modes."""
 from __future__ import annotations
 
+import pathlib
+import shlex
+import sys
 from dataclasses import dataclass
+
+HERE = pathlib.Path(__file__).resolve().parent
+
+
+def command(text: str, built: str | pathlib.Path) -> list[str]:
+    """The words of a command in a folder with what was built. A Python that is there stands before this one."""
+    own = pathlib.Path(built) / "python"
+    return shlex.split(text.format(here=HERE, built=built, python=own if own.exists() else sys.executable))
 
 
 @dataclass(frozen=True)
 class Mode:
-    """A way to run an adapter. Commands have the folder of the adapters as {here}, of what was built as {built}."""
+    """A way to run an adapter. Commands have the folder of the adapters as {here}, of what was built as {built}, and
+    Python as {python}."""
     name: str
     words: str
     # A command that fails where there is no such mode.
@@ -36,29 +48,35 @@ def header(name: str, folder: str = "/usr/include") -> str:
 
 
 LUA = Adapter("lua", "liblua5.4-dev", header("lua.h", "/usr/include/lua5.4"),
-              ("cc -O2 -I/usr/include/lua5.4 -o {built}/lua lua.c lua_fields.c front.c -llua5.4",), "{built}/lua", (
+              ("cc -O2 -I/usr/include/lua5.4 -o {built}/lua lua.c lua_code.c lua_fields.c lua_numbers.c lua_roots.c "
+               "lua_tables.c lua_weak.c front.c -llua5.4",), "{built}/lua", (
                   Mode("incremental", "incremental"),
                   Mode("incremental, few steps", "incremental 5"),
                   Mode("generational", "generational 3"),
                   Mode("switching", "switching"),
-                  Mode("emergency", "emergency")))
+                  Mode("emergency", "emergency switching")))
 
 LIBGC = Adapter("libgc", "libgc-dev", header("gc.h"),
-                ("cc -O2 -o {built}/libgc libgc.c front.c -lgc",), "{built}/libgc", (
+                ("cc -O1 -o {built}/libgc libgc.c libgc_objects.c front.c -lgc",), "{built}/libgc", (
                     Mode("stopped", "stopped 3"),
                     Mode("protected", "protected"),
                     Mode("manual", "manual"),
-                    Mode("manual, few steps", "manual 3")))
+                    Mode("manual, few steps", "manual inner 3")))
 
 
 def ocaml(name: str, policy: int, words: str, program: str = "ocaml") -> Mode:
     return Mode(name, f"OCAMLRUNPARAM=s=256,h=256,i=256,o=5,a={policy} {{built}}/{program} {words}")
 
 
+OCAML_SOURCES = "{built}/ocaml_roots.o {built}/ocaml_items.ml {built}/ocaml_slots.ml {built}/adapter.ml"
+OCAML_COMPILED = OCAML_SOURCES.replace(".ml", ".cmx")
+
 # Each compiler writes its files beside the source, so that is a copy.
 OCAML = Adapter("ocaml", "ocaml-nox", "ocamlopt -version",
-                ("cp ocaml.ml {built}/adapter.ml", "ocamlopt -o {built}/ocaml {built}/adapter.ml",
-                 "ocamlopt -runtime-variant d -o {built}/ocaml_debug {built}/adapter.ml"), "env {{}}", (
+                ("cp ocaml_items.ml ocaml_slots.ml {built}", "cp ocaml.ml {built}/adapter.ml",
+                 "ocamlopt -c -o {built}/ocaml_roots.o ocaml_roots.c",
+                 f"ocamlopt -I {{built}} -o {{built}}/ocaml {OCAML_SOURCES}",
+                 f"ocamlopt -runtime-variant d -I {{built}} -o {{built}}/ocaml_debug {OCAML_COMPILED}"), "env {{}}", (
                      ocaml("natural", 2, "natural"),
                      ocaml("slices", 2, "slices 10"),
                      ocaml("long slices, first fit", 1, "slices 50 3"),
@@ -102,10 +120,14 @@ GO = Adapter("go", "golang-go", "go version",
                  Mode("litter", "GODEBUG=clobberfree=1 {built}/go 100000"),
                  Mode("stopped", "GODEBUG=clobberfree=1,gcstoptheworld=1 {built}/go 100000")), is_dear=True)
 
-CPYTHON = Adapter("cpython", "python3", "true", (), "env PYTHONMALLOC=debug {python} -S {here}/cpython.py", (
-    Mode("young", "0"),
-    Mode("all", "2 3"),
-    Mode("automatic", "automatic")))
+# What the adapter imports is compiled once.
+COMPILED = "{python} -S -X pycache_prefix={built}/compiled"
+CPYTHON = Adapter("cpython", "python3", "true",
+                  (f"env -u PYTHONDONTWRITEBYTECODE {COMPILED} -c 'import cpython_keepers'",),
+                  f"env PYTHONMALLOC=debug {COMPILED} {{here}}/cpython.py", (
+                      Mode("young", "0"),
+                      Mode("all", "2 3"),
+                      Mode("automatic", "automatic")))
 
 THREADS = Adapter("threads", "default-jdk-headless", "javac --release 17 -version", ("javac -d {built} Threads.java",),
                   JAVA_COMMAND + " -cp {built} {{}}", (
@@ -113,4 +135,32 @@ THREADS = Adapter("threads", "default-jdk-headless", "javac --release 17 -versio
                       Mode("shenandoah", f"{AGGRESSIVE} Threads 1000 20000", f"{JAVA_COMMAND} {AGGRESSIVE} -version"),
                       Mode("z", f"{Z} Threads 1000 20000", f"{JAVA_COMMAND} {Z} -version")), has_threads=True)
 
-ALL = (LUA, LIBGC, OCAML, JAVA, GO, CPYTHON, THREADS)
+# Few slots are kept free, so that pages come and go.
+SMALL_HEAP = ("RUBY_GC_HEAP_FREE_SLOTS=64 RUBY_GC_HEAP_FREE_SLOTS_MIN_RATIO=0.05 RUBY_GC_HEAP_FREE_SLOTS_GOAL_RATIO=0.1 "
+              "RUBY_GC_HEAP_FREE_SLOTS_MAX_RATIO=0.2")
+POISONED = "GLIBC_TUNABLES=glibc.malloc.perturb=219:glibc.malloc.tcache_count=0"
+
+RUBY = Adapter("ruby", "ruby3.1-dev", "pkg-config --exists ruby-3.1",
+               ("sh -c 'cc -O2 -o {built}/ruby ruby.c ruby_holders.c ruby_numbers.c ruby_roots.c front.c "
+                "$(pkg-config --cflags --libs ruby-3.1)'",),
+               f"env {POISONED} {SMALL_HEAP} {{built}}/ruby {{here}}/ruby_holders.rb {{{{}}}}", (
+                   Mode("incremental", "incremental"),
+                   Mode("generational", "generational 3"),
+                   Mode("compacting", "compacting 10"),
+                   Mode("moving", "moving"),
+                   Mode("stressed", "stressed 200", is_slow=True)), is_dear=True)
+
+RACKET = Adapter("racket", "racket liblz4-dev zlib1g-dev", header("chezscheme.h", "/usr/include/racket -include stddef.h"),
+                 ("cc -O2 -I/usr/include/racket -o {built}/racket racket.c front.c -lracketcs -lz -llz4 -lm -ldl -lpthread "
+                  "-lrt -lncurses -ltinfo",),
+                 f"env {POISONED} {{built}}/racket {{here}}/racket_holders.ss {{{{}}}}", (
+                     Mode("young", "young"),
+                     Mode("generations", "generations"),
+                     Mode("staying", "staying 3"),
+                     Mode("climbing", "climbing"),
+                     Mode("marking", "marking"),
+                     Mode("counted", "counted"),
+                     Mode("checked", "checked", is_slow=True),
+                     Mode("automatic", "automatic")), is_dear=True)
+
+ALL = (LUA, LIBGC, OCAML, JAVA, GO, CPYTHON, THREADS, RUBY, RACKET)

@@ -1,7 +1,7 @@
 (* Answers scripts by the collector of OCaml.
 
-       ocamlopt -o ocaml ocaml.ml                           (Debian: ocaml-nox)
-       ocamlopt -runtime-variant d -o ocaml_debug ocaml.ml  (its runtime poisons what it frees, and looks at itself)
+       ocamlopt -o ocaml ocaml_roots.c ocaml_items.ml ocaml_slots.ml ocaml.ml  (Debian: ocaml-nox)
+       .. -runtime-variant d -o ocaml_debug ..       (its runtime poisons what it frees, and looks at itself)
        OCAMLRUNPARAM=s=256,h=256,i=256,o=5,a=POLICY ocaml [natural | slices WORDS | minor | compacting] [EVERY]
 
    With these parameters heaps are small, and the allocator has one of its three policies, 0 to 2. After each EVERY
@@ -10,67 +10,22 @@
      slices      by a slice of the old heap, of so many words
      minor       by a collection of the young heap; after each command no old object would lead to a young one, so EVERY
                  should be 3 or more
-     compacting  as in natural, and `* quantum` compacts
+     compacting  as in natural, and `* quantum` compacts; the policy is another in the next script of a process
 
-   Numbers are boxed, so each is an object. Two references lie at the end of the object itself; the others are an array,
-   which is written in four ways, by the number of the field.
+   Objects are in ocaml_items.ml: they keep references in many ways, in turn by their birth, and are written in many
+   ways, in turn by the field. Slots are in ocaml_slots.ml, and roots of C in ocaml_roots.c.
 
    Cycles are those of the old heap, which begins one as it ends another. So one is under way but from a `* quantum` to
    the next collection of the young heap, as in OCaml 4. Which phase it is in isn't known to programs. *)
 
+open Ocaml_items
+
 let sessions = 8
 let slots = 16
 let most_fields = 216_000
-(* Of so many words an object may be young. *)
-let most_young = 256
-
 exception Refused of string
 
-(* Null is an object too, so that no reference is boxed. *)
-type item = {
-  count : int;
-  numbers : int64 array;
-  mutable rest : item array;
-  mutable first : item;
-  mutable second : item;
-}
-
-let rec null = { count = 0; numbers = [||]; rest = [||]; first = null; second = null }
-
-let make references numbers =
-  { count = references;
-    (* Each number is a box of its own. *)
-    numbers = Array.init numbers (fun _ -> Int64.of_string "0");
-    rest = Array.make (max 0 (references - 2)) null;
-    first = null;
-    second = null }
-
-let load item = function
-  | 0 -> item.first
-  | 1 -> item.second
-  | field -> item.rest.(field - 2)
-
-let copied_on_write item at value =
-  let copy = Array.copy item.rest in
-  copy.(at) <- value;
-  item.rest <- copy
-
-let store_in_rest item at value =
-  match at mod 4 with
-  | 0 -> item.rest.(at) <- value
-  | 1 -> Array.fill item.rest at 1 value
-  | 2 -> Array.blit [| value |] 0 item.rest at 1
-  | _ when Array.length item.rest <= most_young -> copied_on_write item at value
-  | _ -> item.rest.(at) <- value
-
-let store item field value =
-  match field with
-  | 0 -> item.first <- value
-  | 1 -> item.second <- value
-  | field -> store_in_rest item (field - 2) value
-
 (* What a line `config` begins anew. The board is behind the slots of the last session. *)
-let roots = Array.make ((sessions + 1) * slots) null
 let names : (string, int) Hashtbl.t = Hashtbl.create sessions
 let has_ended = Array.make sessions false
 
@@ -105,34 +60,35 @@ let require_object form operands =
     | Some at when operands.(at) >= count item -> raise (Refused "3 no field")
     | _ -> ()
   in
-  match Option.map (fun at -> roots.(operands.(at))) object_at with
+  match Option.map (fun at -> Ocaml_slots.get operands.(at)) object_at with
   | None -> ()
   | Some item when item == null -> raise (Refused "2 null")
   | Some item ->
     require item 'r' (fun item -> item.count);
-    require item 'n' (fun item -> Array.length item.numbers)
+    require item 'n' number_count
 
 let make_at root references numbers =
   if references + numbers > most_fields then raise (Refused "4 too large");
-  roots.(root) <- make references numbers
+  Ocaml_slots.set root (make references numbers)
 
 (* Does a command whose slots are roots. A number that is written has all 64 bits, so it is given beside the others. *)
 let perform session word operands value =
   let a = operands.(0) and b = operands.(1) and c = operands.(2) in
+  let slot = Ocaml_slots.get in
   match word with
   | "new" -> make_at a b c; "ok"
-  | "get" -> roots.(a) <- load roots.(b) c; "ok"
-  | "put" -> store roots.(a) b roots.(c); "ok"
-  | "read" -> Printf.sprintf "number %Lu" roots.(a).numbers.(b)
-  | "write" -> roots.(a).numbers.(b) <- value; "ok"
-  | "clear" -> roots.(a) <- null; "ok"
-  | "same" -> if roots.(a) == roots.(b) then "yes" else "no"
-  | "shape" -> Printf.sprintf "shape %d %d" roots.(a).count (Array.length roots.(a).numbers)
+  | "get" -> Ocaml_slots.set a (load (slot b) c); "ok"
+  | "put" -> store (slot a) b (slot c); "ok"
+  | "read" -> Printf.sprintf "number %Lu" (read (slot a) b)
+  | "write" -> write (slot a) b value; "ok"
+  | "clear" -> Ocaml_slots.set a null; "ok"
+  | "same" -> if slot a == slot b then "yes" else "no"
+  | "shape" -> Printf.sprintf "shape %d %d" (slot a).count (number_count (slot a))
   | "end" ->
-    Array.fill roots (session * slots) slots null;
+    Ocaml_slots.clear (session * slots) slots;
     has_ended.(session) <- true;
     "ok"
-  | _ -> roots.(a) <- roots.(b); "ok"
+  | _ -> Ocaml_slots.set a (slot b); "ok"
 
 let command session word texts =
   if session >= sessions then raise (Refused "7 too many sessions");
@@ -165,17 +121,26 @@ let look () =
   cycles := seen.major_collections;
   minors := seen.minor_collections
 
+let words = List.tl (Array.to_list Sys.argv)
+let numbers = List.filter_map int_of_string_opt words
+let is_asked word = List.mem word words
+
+(* The young heap and the window over which the collector spreads its work change their sizes now and then. Where the
+   heap is compacted the allocator has another policy, too. *)
+let change_sizes () =
+  let turn = (!Ocaml_items.script - 1) / 4 mod 3 in
+  let sizes = { (Gc.get ()) with minor_heap_size = 4096 + 512 * turn; window_size = 1 + turn } in
+  Gc.set (if is_asked "compacting" then { sizes with allocation_policy = 2 - turn } else sizes)
+
 let begin_anew () =
-  Array.fill roots 0 (Array.length roots) null;
+  Ocaml_slots.clear 0 Ocaml_slots.count;
+  Ocaml_items.begin_anew ();
+  change_sizes ();
   Hashtbl.reset names;
   Array.fill has_ended 0 sessions false;
   look ();
   cycles_before := !cycles;
   within := 0
-
-let words = List.tl (Array.to_list Sys.argv)
-let numbers = List.filter_map int_of_string_opt words
-let is_asked word = List.mem word words
 
 let litter () = ignore (Sys.opaque_identity (Array.make most_young 0))
 
@@ -191,9 +156,14 @@ let every =
   | every :: _ when not (is_asked "slices") -> every
   | _ -> 1
 
+let quanta = ref 0
+
 (* Brings the cycle that is under way to its end. *)
 let quantum () =
-  if is_asked "compacting" then Gc.compact () else Gc.major ();
+  incr quanta;
+  if is_asked "compacting" then Gc.compact ()
+  else if !quanta mod 32 = 0 then Gc.full_major ()
+  else Gc.major ();
   look ();
   is_under_way := false
 
@@ -213,7 +183,7 @@ let answer name word texts =
 
 let control word =
   if word = "quantum" then quantum () else start ();
-  Printf.printf "cycles %d within %d phase %s\n%!" (!cycles - !cycles_before) !within
+  Printf.printf "cycles %d within %d phase %s moves yes\n%!" (!cycles - !cycles_before) !within
     (if !is_under_way then "collecting" else "idle")
 
 let rec serve () =
@@ -224,4 +194,4 @@ let rec serve () =
   | _ -> failwith "no event"
   | exception End_of_file -> ()
 
-let () = serve ()
+let () = Ocaml_slots.serve serve null

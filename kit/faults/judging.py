@@ -3,7 +3,6 @@ from __future__ import annotations
 
 import os
 import pathlib
-import re
 import resource
 import shlex
 import shutil
@@ -14,26 +13,26 @@ from collections.abc import Iterator, Sequence
 from dataclasses import dataclass, field
 from xml.etree import ElementTree
 
-from adapters.known import ALL, Adapter, Mode
+from adapters.known import ALL, Adapter, Mode, command
 from faults.planted import Collector, Fault
-from faults.workshop import ADAPTERS, Failed
+from faults.workshop import Failed
 
 JUDGE = pathlib.Path(__file__).resolve().parent.parent / "judge"
-# A program that damaged its memory may hang, or ask for all there is.
-SECONDS = ("--seconds", "5", "--event-seconds", "0.0001")
 SHRINK_SECONDS = "30"
 # What the judge notes of a finding.
 UNSTEADY = "answer the same each time"
 BEHIND = "in one process, and not alone"
+# A program that damaged its memory may ask for all there is.
 MOST_BYTES = 4 << 30
 # Profiles, the seeds of each and how many events a script has. What a reference doesn't know isn't judged.
 TURNS = ("churn", "lists", "trees", "wide", "large", "frag", "refusals", "mixed")
 IN_TURN = "in turn"
-SERIES = {IN_TURN: (20, 10000), "barriers": (20, 10000), "comb": (8, 80000)}
+SERIES = {IN_TURN: (20, 10000), "barriers": (20, 10000), "comb": (8, 80000), "fans": (4, 43000)}
 # No collector of the adapters is full before that.
 PAGES = "4096"
 # The allocator of glibc writes a random word into what it keeps of a thread's freed blocks: runs would differ.
-STEADY = {**os.environ, "GLIBC_TUNABLES": "glibc.malloc.tcache_count=0"}
+NO_CACHE = ("GLIBC_TUNABLES", "glibc.malloc.tcache_count=0")
+STEADY = {**os.environ, NO_CACHE[0]: NO_CACHE[1]}
 
 
 @dataclass(frozen=True)
@@ -47,11 +46,13 @@ class Script:
 @dataclass
 class Row:
     """What is found of a collector: by conformance files in which modes, by how many generated scripts of each series,
-    and how many events the smallest has when it is shrunk: none, if each is found behind other scripts alone."""
+    and how many events the smallest has when it is shrunk, with those of scripts that it needs before it."""
     modes: list[str] = field(default_factory=list)
     generated: dict[str, tuple[int, int]] = field(default_factory=dict)
     events: int = 0
     is_unsteady: bool = False
+    # Whether the smallest needs other scripts before it in its process.
+    is_behind: bool = False
     seconds: float = 0.0
 
     @property
@@ -63,14 +64,18 @@ class Row:
         return bool(self.modes) or self.by_generated > 0
 
 
+def steady_words() -> list[str]:
+    """What a program is run by, so that its addresses are the same in each run, where that can be had."""
+    return ["setarch", "-R"] if shutil.which("setarch") else []
+
+
 def limit_resources() -> None:
     resource.setrlimit(resource.RLIMIT_AS, (MOST_BYTES, MOST_BYTES))
     resource.setrlimit(resource.RLIMIT_CORE, (0, 0))
 
 
 def events_in(report: str) -> int:
-    found = re.search(r"^# catches: .* of ([0-9]+)(?: events)?\b", report, re.MULTILINE)
-    return int(found[1]) if found else 0
+    return sum(not line.startswith(("#", "config ")) for line in report.splitlines() if line)
 
 
 def adapter_of(collector: Collector) -> Adapter:
@@ -83,9 +88,8 @@ class Bench:
     def __init__(self, folder: pathlib.Path, reference: Sequence[str], jobs: int) -> None:
         self.folder, self.reference = folder, reference
         self.judge_words = [sys.executable, str(JUDGE), "--protocol", "many", "--jobs", str(jobs), "--reference",
-                            shlex.join(reference), *SECONDS]
-        # Addresses are the same in each run, where that can be had.
-        self.steady = ["setarch", "-R"] if shutil.which("setarch") else []
+                            shlex.join(reference)]
+        self.steady = steady_words()
         self.series = {name: self.generate(name, *sizes) for name, sizes in SERIES.items() if self.knows(name)}
 
     def knows(self, series: str) -> bool:
@@ -117,7 +121,7 @@ class Bench:
     def ask(self, collector: Collector, mode: Mode, words: Sequence[str]) -> subprocess.CompletedProcess[str]:
         """The judge's report of a mode. A finding is its status 1."""
         built = self.folder / collector.name / "built"
-        program = shlex.split(adapter_of(collector).program.format(built=built, here=ADAPTERS, python=sys.executable))
+        program = command(adapter_of(collector).program, built)
         judged = subprocess.run([*self.judge_words, *words, "--mode", mode.words.format(built=built), "--",
                                  *self.steady, *program], stdin=subprocess.DEVNULL, capture_output=True, text=True,
                                 errors="replace", env=STEADY, preexec_fn=limit_resources, check=False)
@@ -144,8 +148,9 @@ class Judging:
     def __init__(self, bench: Bench, collector: Collector, kept: str) -> None:
         self.bench, self.collector, self.kept, self.row = bench, collector, kept, Row()
         self.adapter = adapter_of(collector)
-        # Findings that a script has alone: how many events it has, its file, and the mode.
+        # Findings that a script has alone, and others: how many events it has, its file, and the mode.
         self.alone: list[tuple[int, str, Mode]] = []
+        self.behind: list[tuple[int, str, Mode]] = []
 
     def find(self, mode: Mode, words: Sequence[str], what: str) -> bool:
         keep = f"{self.kept}-{what}-{mode.name.replace(', ', '-').replace(' ', '-')}.script"
@@ -155,8 +160,7 @@ class Judging:
             return False
         report = pathlib.Path(keep).read_text(errors="replace")
         self.row.is_unsteady |= UNSTEADY in report
-        if BEHIND not in report:
-            self.alone.append((events_in(report), keep, mode))
+        (self.behind if BEHIND in report else self.alone).append((events_in(report), keep, mode))
         return True
 
     def judge_files(self, mode: Mode) -> None:
@@ -181,14 +185,16 @@ class Judging:
 
     def shrink(self) -> None:
         """How many events the smallest finding has when it is shrunk."""
-        if not self.alone:
+        found = self.alone or self.behind
+        if not found:
             return
-        events, script, mode = min(self.alone, key=lambda finding: finding[0])
+        _, script, mode = min(found, key=lambda finding: finding[0])
         keep = f"{self.kept}-shrunk.script"
         judged = self.bench.ask(self.collector, mode, ["--conformance", "none", "--script", script, "--shrink-seconds",
                                                      SHRINK_SECONDS, "--keep", keep])
         if judged.returncode == 1:
-            events = events_in(pathlib.Path(keep).read_text(errors="replace"))
+            script = keep
         else:
             self.row.is_unsteady = True
-        self.row.events = events
+        report = pathlib.Path(script).read_text(errors="replace")
+        self.row.events, self.row.is_behind = events_in(report), BEHIND in report

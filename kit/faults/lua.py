@@ -1,96 +1,17 @@
-"""Faults of Lua's collector: incremental and generational, with barriers forward and back."""
+"""Lua, whose collector is incremental and generational, with barriers forward and back."""
 from __future__ import annotations
 
-from faults.planted import Collector, Fault, Kind
+from faults.lua_collector import COLLECTOR_FAULTS
+from faults.lua_stores import OTHER_FAULTS
+from faults.planted import Collector
 
-FAULTS = (
-    Fault("forward-barrier", Kind.BARRIER, "src/lgc.c",
-          "    reallymarkobject(g, v);  /* restore invariant */\n", "",
-          "A black closure or object with a metatable leads to an object that is never marked."),
-    Fault("back-barrier", Kind.BARRIER, "src/lgc.c",
-          "if (getage(o) == G_TOUCHED2)  /* already in gray list? */", "if (1)",
-          "A table that was written turns grey, but is on no list, so its new values are freed."),
-    Fault("user-value-barrier", Kind.BARRIER, "src/lapi.c",
-          "luaC_barrierback(L, gcvalue(o), s2v(L->top - 1));", ";",
-          "What is stored in a user value of a marked object is freed."),
-    Fault("upvalue-barrier", Kind.BARRIER, "src/lapi.c", "luaC_barrier(L, owner, val);", ";",
-          "What is stored in an upvalue of a marked closure is freed."),
-    Fault("raw-set-barrier", Kind.BARRIER, "src/lapi.c",
-          "  luaH_set(L, t, key, s2v(L->top - 1));\n  invalidateTMcache(t);\n"
-          "  luaC_barrierback(L, obj2gco(t), s2v(L->top - 1));\n",
-          "  luaH_set(L, t, key, s2v(L->top - 1));\n  invalidateTMcache(t);\n",
-          "What is stored in a marked table by its interface for C is freed."),
-    Fault("new-key-barrier", Kind.BARRIER, "src/ltable.c", "luaC_barrierback(L, obj2gco(t), key);", ";",
-          "A new key of a marked table is freed."),
-    Fault("back-barrier-16", Kind.RARE, "src/lgc.c", "  lua_assert(isblack(o) && !isdead(g, o));\n",
-          "  static int calls; if (++calls % 16 == 0) return;\n",
-          "One of 16 written tables isn't looked at again."),
-    Fault("back-barrier-256", Kind.RARE, "src/lgc.c", "  lua_assert(isblack(o) && !isdead(g, o));\n",
-          "  static int calls; if (++calls % 256 == 0) return;\n",
-          "One of 256 written tables isn't looked at again."),
-    Fault("forward-barrier-64", Kind.RARE, "src/lgc.c",
-          "  lua_assert(isblack(o) && iswhite(v) && !isdead(g, v) && !isdead(g, o));\n",
-          "  static int calls; if (++calls % 64 == 0) return;\n",
-          "One of 64 objects that a marked closure gets is freed.",
-          "a script of 10,000 events comes to this barrier some 30 times at most"),
-    Fault("touched-once", Kind.REMEMBERED, "src/lgc.c",
-          "goto remain;  /* keep it in the list and go to next element */", "goto remove;",
-          "An old table that was written is looked at in one young collection, but not in the next."),
-    Fault("old-leads-to-new", Kind.REMEMBERED, "src/lgc.c",
-          "setage(v, G_OLD0);  /* restore generational invariant */", ";",
-          "What an old closure was given stays new, and is freed by the next but one young collection."),
-    Fault("just-old", Kind.REMEMBERED, "src/lgc.c", "if (getage(p) == G_OLD1) {", "if (0) {",
-          "Objects that have just become old aren't looked at, so what they alone lead to is freed."),
-    Fault("old-too-soon", Kind.REMEMBERED, "src/lgc.c", "G_OLD1,      /* from G_SURVIVAL */",
-          "G_OLD,       /* from G_SURVIVAL */",
-          "Survivors are wholly old while what they lead to is young, and nobody remembers that."),
-    Fault("array-last", Kind.MARKING, "src/lgc.c", "i < asize; i++)  /* traverse array part */",
-          "i + 1 < asize; i++)", "The last element of an array isn't marked."),
-    Fault("hash-64th", Kind.MARKING, "src/lgc.c", "      markvalue(g, gval(n));\n",
-          "      if (n != gnode(h, 0) + 63) markvalue(g, gval(n));\n",
-          "The 64th place of a table's hash part isn't marked.",
-          "no script fills more than 32 fields of an object that has a hash part with references"),
-    Fault("upvalue-first", Kind.MARKING, "src/lgc.c",
-          "for (i = 0; i < cl->nupvalues; i++)  /* mark its upvalues */", "for (i = 1; i < cl->nupvalues; i++)",
-          "The first upvalue of a closure isn't marked."),
-    Fault("user-value-last", Kind.MARKING, "src/lgc.c", "for (i = 0; i < u->nuvalue; i++)",
-          "for (i = 0; i + 1 < u->nuvalue; i++)", "The last user value of an object isn't marked."),
-    Fault("metatable", Kind.MARKING, "src/lgc.c",
-          "  const TValue *mode = gfasttm(g, h->metatable, TM_MODE);\n  markobjectN(g, h->metatable);\n",
-          "  const TValue *mode = gfasttm(g, h->metatable, TM_MODE);\n",
-          "The metatable of a table is freed, and with it what says that the table is weak."),
-    Fault("grey-again", Kind.GREY, "src/lgc.c", "work += propagateall(g);  /* traverse 'grayagain' list */",
-          "g->gray = NULL;", "What was written while it was marked isn't looked at again."),
-    Fault("threads-again", Kind.GREY, "src/lgc.c", "if (isold(th) || g->gcstate == GCSpropagate)",
-          "if (isold(th))", "Stacks, which have no barriers, aren't looked at at the end of marking."),
-    Fault("born-black", Kind.BIRTH, "src/lgc.c", "  o->marked = luaC_white(g);\n",
-          "  o->marked = bitmask(BLACKBIT);\n",
-          "Objects are born marked, so what they are made with isn't looked at."),
-    Fault("sweep-51st", Kind.SWEEP, "src/lgc.c", "if (isdeadm(ow, marked)) {  /* is 'curr' dead? */",
-          "if (isdeadm(ow, marked) || i == 50) {", "Each sweep frees its 51st object, marked or not."),
-    Fault("interned", Kind.SWEEP, "src/lstring.c", "changewhite(ts);  /* resurrect it */", ";",
-          "A short string that is made again before it is swept is freed while it is used."),
-    Fault("ephemerons-once", Kind.WEAK, "src/lgc.c", "} while (changed);  /* repeat until no more changes */",
-          "} while (0);", "A value whose key is marked late is dropped from a weak table."),
-    Fault("dead-keys", Kind.WEAK, "src/lgc.c",
-          "clearbykeys(g, g->ephemeron);  /* clear keys from all ephemeron tables */", ";",
-          "Entries of dead keys stay, and a new object at the same place finds their values."),
-    Fault("emergency-stack", Kind.STACK, "src/lgc.c", "  else if (!g->gcemergency)\n", "  else\n",
-          "A collection in the midst of an allocation moves the stack to which its caller points.",
-          "no stack is shrunk, since the adapter reserves what it uses"),
-    Fault("emergency-strings", Kind.STACK, "src/lgc.c",
-          "  if (!g->gcemergency) {\n    if (g->strt.nuse < g->strt.size / 4) {",
-          "  if (1) {\n    if (g->strt.nuse < g->strt.size / 4) {",
-          "A collection in the midst of an allocation shrinks the table of strings that is being changed.",
-          "the table of strings hardly shrinks, since scripts have few strings alive"),
-)
-
-SEEDED = "cc -O2 -w -DLUA_USE_POSIX '-Dluai_makeseed(L)=1' -I{tree}/src"
+FAULTS = (*COLLECTOR_FAULTS, *OTHER_FAULTS)
+SEEDED = "cc -O2 -w {flags} -DLUA_USE_POSIX '-Dluai_makeseed(L)=1' -I{tree}/src"
 EDITED = " ".join(sorted({f"{{tree}}/{fault.file}" for fault in FAULTS}))
 
 LUA = Collector(
     "lua", "lua5.4",
     (f"mkdir -p {{built}}/objects && cd {{built}}/objects && {SEEDED} -c {{tree}}/src/l*.c && rm -f lua.o luac.o",),
     (f"cd {{built}}/objects && {SEEDED} -c {EDITED}",
-     f"{SEEDED} -o {{built}}/lua {{here}}/lua.c {{here}}/lua_fields.c {{here}}/front.c {{built}}/objects/*.o -lm"),
+     f"{SEEDED} -o {{built}}/lua {{here}}/lua.c {{here}}/lua_*.c {{here}}/front.c {{built}}/objects/*.o -lm"),
     FAULTS)

@@ -2,10 +2,18 @@
 compacted."""
 from __future__ import annotations
 
+from faults.ocaml_weak import WEAK
 from faults.planted import Collector, Fault, Kind
 
 DARKENED = "      if (caml_gc_phase == Phase_mark) caml_darken(old, NULL);\n"
 DARKENED_IN_FILL = "        if (caml_gc_phase == Phase_mark) caml_darken(old, NULL);\n"
+RESIZED = """    CAML_EV_COUNTER (EV_C_FORCE_MINOR_SET_MINOR_HEAP_SIZE, 1);
+    Caml_state->requested_minor_gc = 0;
+    Caml_state->young_trigger = Caml_state->young_alloc_mid;
+    caml_update_young_limit();
+    caml_empty_minor_heap ();
+"""
+INITIALISED = "  if (!Is_young((value)fp) && Is_block (val) && Is_young (val)) {"
 REMEMBERED = "    /* Check for condition 1. */\n    if (Is_block(val) && Is_young(val)) {"
 
 FAULTS = (
@@ -26,25 +34,72 @@ FAULTS = (
     Fault("remembered-64", Kind.RARE, "runtime/memory.c", REMEMBERED,
           "    static int stored; if (Is_block(val) && Is_young(val) && ++stored % 64 != 0) {",
           "One of 64 old fields that lead to a young object is forgotten."),
+    Fault("remembered-16", Kind.RARE, "runtime/memory.c", REMEMBERED,
+          "    static int stored; if (Is_block(val) && Is_young(val) && ++stored % 16 != 0) {",
+          "One of 16 old fields that lead to a young object is forgotten."),
+    Fault("remembered-256", Kind.RARE, "runtime/memory.c", REMEMBERED,
+          "    static int stored; if (Is_block(val) && Is_young(val) && ++stored % 256 != 0) {",
+          "One of 256 old fields that lead to a young object is forgotten."),
+    Fault("initialize-remembered-16", Kind.RARE, "runtime/memory.c", INITIALISED,
+          "  static int stored;\n"
+          "  if (!Is_young((value)fp) && Is_block (val) && Is_young (val) && ++stored % 16 != 0) {",
+          "One of 16 fields of fresh old objects that lead to a young one isn't remembered."),
+    Fault("initialize-remembered-256", Kind.RARE, "runtime/memory.c", INITIALISED,
+          "  static int stored;\n"
+          "  if (!Is_young((value)fp) && Is_block (val) && Is_young (val) && ++stored % 256 != 0) {",
+          "One of 256 fields of fresh old objects that lead to a young one isn't remembered."),
+    Fault("fill-deletion-barrier-16", Kind.RARE, "runtime/array.c", DARKENED_IN_FILL,
+          "        static int calls; if (caml_gc_phase == Phase_mark && ++calls % 16 != 0) caml_darken(old, NULL);\n",
+          "One of 16 objects that `Array.fill` overwrites while the old heap is marked isn't marked."),
+    Fault("remembered-while-sweeping", Kind.REMEMBERED, "runtime/memory.c", "      if (Is_young(old)) return;\n",
+          "      if (Is_young(old) || caml_gc_phase == Phase_sweep) return;\n",
+          "A field that is overwritten while the old heap is swept isn't remembered."),
     Fault("remembered", Kind.REMEMBERED, "runtime/memory.c", REMEMBERED, "    if (0) {",
           "Old fields that lead to young objects are forgotten."),
     Fault("remembered-while-marking", Kind.REMEMBERED, "runtime/memory.c", DARKENED,
           "      if (caml_gc_phase == Phase_mark) { caml_darken(old, NULL); return; }\n",
           "A field that is overwritten while the old heap is marked isn't remembered."),
     Fault("initialize-remembered", Kind.REMEMBERED, "runtime/memory.c",
-          "  if (!Is_young((value)fp) && Is_block (val) && Is_young (val)) {", "  if (0) {",
-          "A fresh old object that leads to young ones isn't remembered.",
-          "the adapter copies no array of more than 256 fields"),
+          INITIALISED, "  if (0) {", "A fresh old object that leads to young ones isn't remembered."),
     Fault("fill-remembered", Kind.REMEMBERED, "runtime/array.c",
           "      if (is_val_young_block)\n        add_to_ref_table",
           "      if (0)\n        add_to_ref_table",
           "An old array that `Array.fill` fills with a young object isn't remembered."),
+    Fault("blit-up", Kind.REMEMBERED, "runtime/array.c",
+          "         count--, src--, dst--) {\n      caml_modify(dst, *src);",
+          "         count--, src--, dst--) {\n      *dst = *src;",
+          "`Array.blit` that moves fields of an array up has no barrier."),
+    Fault("gather-remembered", Kind.REMEMBERED, "runtime/array.c", "        caml_initialize(&Field(res, pos), *src);",
+          "        Field(res, pos) = *src;", "Large copies of arrays aren't remembered."),
+    Fault("table-grown", Kind.GROWTH, "runtime/minor_gc.c", "    tbl->ptr = tbl->base + cur_ptr;\n",
+          "    (void)cur_ptr; tbl->ptr = tbl->base;\n", "What was remembered is forgotten as the table of it grows."),
+    Fault("young-heap-resized", Kind.GROWTH, "runtime/minor_gc.c",
+          RESIZED, RESIZED.replace("    caml_empty_minor_heap ();\n", ""),
+          "The young heap gets another size, and what is in it is lost."),
     Fault("first-remembered", Kind.REMEMBERED, "runtime/minor_gc.c", "for (r = Caml_state->ref_table->base;\n",
           "for (r = Caml_state->ref_table->base + 1;\n",
           "The first of the remembered fields isn't looked at, and keeps an address of the young heap."),
     Fault("last-not-copied", Kind.MARKING, "runtime/minor_gc.c", "    for (i = 1; i < Wosize_val (new_v); i++){\n",
           "    for (i = 1; i < Wosize_val (new_v) - (Wosize_val (new_v) > 32); i++){\n",
           "The last field of a young object of more than 32 isn't copied as it becomes old."),
+    Fault("box-not-copied", Kind.MARKING, "runtime/minor_gc.c",
+          "          p = &Field (result, 0);\n          v = field0;\n          goto tail_call;\n",
+          "          Field (result, 0) = field0;\n          return;\n",
+          "What an object of one field leads to isn't copied as the object becomes old."),
+    Fault("raw-last", Kind.MARKING, "runtime/minor_gc.c", "for (i = 0; i < sz; i++) Field (result, i) = Field (v, i);",
+          "for (i = 0; i < sz - (sz > 4); i++) Field (result, i) = Field (v, i);",
+          "The last word of numbers isn't copied as they become old."),
+    Fault("infix-copied", Kind.MARKING, "runtime/minor_gc.c", "        *p += offset;\n", "        ;\n",
+          "What leads into a closure leads to its beginning once that is old."),
+    Fault("infix-marked", Kind.MARKING, "runtime/major_gc.c",
+          "      child -= Infix_offset_val(child);\n      chd = Hd_val(child);\n", "      return;\n",
+          "A closure that is led into, and not to, isn't marked."),
+    Fault("infix-darkened", Kind.GREY, "runtime/major_gc.c",
+          "      v -= Infix_offset_val(v);\n      h = Hd_val (v);\n      t = Tag_hd (h);\n", "      return;\n",
+          "A closure that is led into, and is overwritten, isn't marked."),
+    Fault("custom-copied", Kind.SWEEP, "runtime/minor_gc.c",
+          "      if (Hd_val (v) == 0){\n        /* Block was copied", "      if (0){\n        /* Block was copied",
+          "Memory outside the heap is freed as the block that has it becomes old."),
     Fault("last-field-alone", Kind.MARKING, "runtime/major_gc.c", "  if (i == block_wsz) {\n",
           "  if (i >= block_wsz - 1) {\n",
           "A small object whose last field alone leads to another isn't looked into."),
@@ -67,6 +122,15 @@ FAULTS = (
           "      (caml_gc_phase == Phase_sweep && (char *)hp >= (char *)caml_gc_sweep_hp)){\n    Hd_hp (hp)",
           "      0){\n    Hd_hp (hp)",
           "Objects that become old ahead of the sweep are freed by it."),
+    Fault("born-while-cleaning", Kind.BIRTH, "runtime/memory.c",
+          "  if (caml_gc_phase == Phase_mark || caml_gc_phase == Phase_clean ||\n"
+          "      (caml_gc_phase == Phase_sweep && (char *)hp >= (char *)caml_gc_sweep_hp)){\n    Hd_hp",
+          "  if (caml_gc_phase == Phase_mark ||\n"
+          "      (caml_gc_phase == Phase_sweep && (char *)hp >= (char *)caml_gc_sweep_hp)){\n    Hd_hp",
+          "Objects that become old while weak references are cleared are freed."),
+    Fault("truncated", Kind.SWEEP, "runtime/obj.c", "    Make_header (Wosize_whsize (wosize-new_wosize), Abstract_tag",
+          "    Make_header (Wosize_whsize (wosize-new_wosize) + 1, Abstract_tag",
+          "What is cut off an array takes in a word of the next object."),
     Fault("sweep-64th", Kind.SWEEP, "runtime/major_gc.c", "      switch (Color_hd (hd)){\n",
           "      static int swept;\n"
           "      switch (Is_black_hd (hd) && ++swept % 64 == 0 ? Caml_white : Color_hd (hd)){\n",
@@ -76,13 +140,34 @@ FAULTS = (
           "    case Caml_blue: bf_remove (cur); goto next;\n    case Caml_black:\n"
           "      { static int runs; if (++runs % 64 == 0) goto white; }\n      goto end_of_run;",
           "A run of free blocks takes in the marked one behind it, one time in 64."),
+    Fault("merged-next-fit", Kind.SWEEP, "runtime/freelist.c",
+          "      if (nf_prev == cur) nf_prev = prev;\n      hd = Make_header (Wosize_hd (hd) + cur_whsz, 0, "
+          "Caml_blue);\n",
+          "      if (nf_prev == cur) nf_prev = prev;\n      static int merged;\n"
+          "      hd = Make_header (Wosize_hd (hd) + cur_whsz + (++merged % 64 == 0), 0, Caml_blue);\n",
+          "One of 64 free blocks that are joined by next fit takes in a word of the object behind it."),
+    Fault("merged-first-fit", Kind.SWEEP, "runtime/freelist.c",
+          "      Next_small (prev) = next_cur;\n      hd = Make_header (Wosize_hd (hd) + cur_whsz, 0, Caml_blue);\n",
+          "      Next_small (prev) = next_cur;\n      static int merged;\n"
+          "      hd = Make_header (Wosize_hd (hd) + cur_whsz + (++merged % 64 == 0), 0, Caml_blue);\n",
+          "One of 64 free blocks that are joined by first fit takes in a word of the object behind it."),
+    Fault("split", Kind.SWEEP, "runtime/freelist.c",
+          "    /* Same as bf_split_small. */\n"
+          "    Hd_val (v) = Make_header (Wosize_whsize(remwhsz), Abstract_tag, Caml_white);",
+          "    /* Same as bf_split_small. */\n"
+          "    Hd_val (v) = Make_header (Wosize_whsize(remwhsz) + 1, Abstract_tag, Caml_white);",
+          "What best fit leaves of a large block takes in the header of what was taken from it."),
+    Fault("stack-grown", Kind.GROWTH, "runtime/major_gc.c",
+          "    new = (mark_entry*) caml_stat_resize_noexc ((char*) stk->stack,\n"
+          "                                                2 * mark_stack_bsize);\n",
+          "    new = (mark_entry*) caml_stat_resize_noexc ((char*) stk->stack,\n"
+          "                                                2 * mark_stack_bsize);\n    stk->count /= 2;\n",
+          "Half of the mark stack is lost as it grows."),
     Fault("overflow", Kind.OVERFLOW, "runtime/major_gc.c", "        Chunk_redarken_end(chunk_addr) = block_op;\n",
-          "", "Where the mark stack overflowed nothing is looked at again.",
-          "no script has 2,048 objects waiting to be looked at"),
+          "", "Where the mark stack overflowed nothing is looked at again."),
     Fault("overflow-resumed", Kind.OVERFLOW, "runtime/major_gc.c",
           "        Chunk_redarken_start(heap_chunk) = p;\n        return 0;\n", "        return 1;\n",
-          "After an overflow objects are looked at again until the stack is a quarter full, and others never.",
-          "no script has 2,048 objects waiting to be looked at"),
+          "After an overflow objects are looked at again until the stack is a quarter full, and others never."),
     Fault("large-young-element", Kind.LARGE, "runtime/array.c", "      if (Is_block(init) && Is_young(init)) {\n",
           "      if (0) {\n", "A large array is filled with a young object that nobody remembers."),
     Fault("compact-last", Kind.COMPACTION, "runtime/compact.c",
@@ -91,16 +176,30 @@ FAULTS = (
           "The last field of each object keeps its address as compaction moves the rest."),
     Fault("compact-globals", Kind.COMPACTION, "runtime/compact.c", "caml_do_roots (caml_invert_root, 1);",
           "caml_do_roots (caml_invert_root, 0);", "Global variables keep their addresses as compaction moves objects."),
-)
+    Fault("compact-closure", Kind.COMPACTION, "runtime/compact.c",
+          "              first_field = Start_env_closinfo (Closinfo_val (v));",
+          "              first_field = Start_env_closinfo (Closinfo_val (v)) + 1;",
+          "The first value that a closure has keeps its address as compaction moves objects."),
+    Fault("compact-infix", Kind.COMPACTION, "runtime/compact.c",
+          "                *pp = (word) Val_hp ((header_t *) &Field (Val_hp (newadr), i));",
+          "                *pp = (word) Val_hp (newadr);",
+          "What leads into a closure leads to its beginning once compaction has moved it."),
+    Fault("compact-chunk", Kind.COMPACTION, "runtime/compact.c",
+          "      if (Chunk_alloc (ch) == 0){\n        if (free < wanted){",
+          "      if (Chunk_alloc (ch) < Chunk_size (ch) / 2){\n        if (free < wanted){",
+          "A part of the heap that is less than half full is given back as if it were empty."),
+) + WEAK
 
-LINKED = "ocamlopt -I {built} -o {built}/"
+SOURCES = "{built}/ocaml_roots.o {built}/ocaml_items.ml {built}/ocaml_slots.ml {built}/adapter.ml"
+LINKED = "ocamlopt -ccopt '{flags} ' -I {built} -o {built}/"
 
 OCAML = Collector(
     "ocaml", "ocaml",
     ("./configure --disable-debugger --disable-ocamldoc",),
-    ("make -C runtime libasmrun.a libasmrund.a",
+    ("make -C runtime CFLAGS='{flags}' libasmrun.a libasmrund.a",
      "cp runtime/libasmrun.a {built}/libasmrun_planted.a && cp runtime/libasmrund.a {built}/libasmrun_checked.a",
-     "cp {here}/ocaml.ml {built}/adapter.ml",
-     f"{LINKED}ocaml -runtime-variant _planted {{built}}/adapter.ml",
-     f"{LINKED}ocaml_debug -runtime-variant _checked {{built}}/adapter.ml"),
+     "cp {here}/ocaml_items.ml {here}/ocaml_slots.ml {built} && cp {here}/ocaml.ml {built}/adapter.ml",
+     "ocamlopt -c -o {built}/ocaml_roots.o {here}/ocaml_roots.c",
+     f"{LINKED}ocaml -runtime-variant _planted {SOURCES}",
+     f"{LINKED}ocaml_debug -runtime-variant _checked {SOURCES.replace('.ml', '.cmx')}"),
     FAULTS)

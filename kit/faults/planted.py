@@ -16,7 +16,12 @@ class Kind(enum.Enum):
     SWEEP = "sweep"
     OVERFLOW = "mark stack overflow"
     LARGE = "large objects"
-    WEAK = "weak tables"
+    ROOTS = "roots"
+    CYCLE = "start and end of a cycle"
+    GROWTH = "growth"
+    WEAK = "weak references"
+    FINALIZER = "finalizers"
+    LAZY = "lazy values"
     STACK = "moving a stack or a table"
     COMPACTION = "compaction"
 
@@ -37,8 +42,8 @@ class Fault:
 
 @dataclass(frozen=True)
 class Collector:
-    """A released collector. Commands have the folder of its source as {tree}, that of the adapters as {here}, and that
-    of what is built as {built}."""
+    """A released collector. Commands have the folder of its source as {tree}, that of the adapters as {here}, that of
+    what is built as {built}, and what else a C compiler is given as {flags}: nothing, or what counts lines."""
     # That of its adapter in kit/adapters too.
     name: str
     # Debian's source package.

@@ -30,6 +30,7 @@ def verdict(row: Row) -> str:
 def cells(row: Row, modes: int) -> str:
     found = "all" if len(row.modes) == modes else "; ".join(row.modes) or "none"
     events = f"{row.events} events" if row.events else "found behind other scripts alone" if row.is_found else "-"
+    events += ", with scripts before" if row.is_behind else ""
     return f"{found} | {scripts_in(row)} | {events}{', not steady' if row.is_unsteady else ''} | {row.seconds:.0f} |"
 
 

@@ -43,18 +43,20 @@ def fetch(packages: Sequence[str], folder: pathlib.Path) -> None:
 
 
 class Workshop:
-    """A copy of the source in which one fault at a time is planted."""
+    """A copy of the source in which one fault at a time is planted. With flags for the C compiler it is a copy of its
+    own."""
 
-    def __init__(self, collector: Collector, folder: pathlib.Path) -> None:
-        self.collector = collector
+    def __init__(self, collector: Collector, folder: pathlib.Path, flags: str = "") -> None:
+        self.collector, self.flags = collector, flags
         self.pristine = next(it for it in (folder / "sources").glob(f"{collector.package}-*") if it.is_dir())
-        self.tree, self.built = folder / collector.name / "tree", folder / collector.name / "built"
+        self.room = folder / (f"{collector.name}-flags" if flags else collector.name)
+        self.tree, self.built = self.room / "tree", self.room / "built"
 
     def run(self, commands: Sequence[str]) -> None:
         folders = {"tree": self.tree, "built": self.built, "here": ADAPTERS}
         quoted = {name: shlex.quote(str(path)) for name, path in folders.items()}
         for command in commands:
-            run(command.format(**quoted), self.tree)
+            run(command.format(**quoted, flags=self.flags), self.tree)
 
     def prepare(self) -> None:
         """Makes the copy, if there is none yet."""

@@ -1,0 +1,25 @@
+;;; Writes the headers of Chez Scheme's kernel, and the parts of its collector that are made by a program, into the
+;;; folder `headers` beside the one that it is run in, which is `s` of the source. The program leaves its files open,
+;;; so they are closed here.
+(subset-mode 'system)
+(define ports '())
+(define open-file open-output-file)
+(define (open-output-file . words)
+  (let ([port (apply open-file words)])
+    (set! ports (cons port ports))
+    port))
+(define (close-all)
+  (for-each close-port ports))
+(let ()
+  (for-each
+    (lambda (name)
+      (compile-file (string-append name ".ss") (string-append name ".so"))
+      (load (string-append name ".so")))
+    '("cmacros" "priminfo" "primvars" "env" "mkheader" "mkgc"))
+  (eval '(mkscheme.h "../headers/scheme.h" 'ta6le))
+  (eval '(mkequates.h "../headers/equates.h"))
+  (eval '(mkgc-ocd.inc "../headers/gc-ocd.inc"))
+  (eval '(mkgc-oce.inc "../headers/gc-oce.inc"))
+  (eval '(mkgc-par.inc "../headers/gc-par.inc"))
+  (eval '(mkheapcheck.inc "../headers/heapcheck.inc"))
+  (close-all))
