@@ -16,7 +16,7 @@ COLLECTOR = Source("Modules/gcmodule.c", (
                           "gc_list_size gc_list_clear_collecting _PyGC_InitState PyInit_gc"),
     function("_PyGC_Init", What.HELP, START),
     function("gcmodule_exec", What.HELP, START),
-    function("gc_list_remove", What.HELP, Reason.DEAD),
+    function("gc_list_remove", What.HELP, Reason.MISUSE),
     *functions(What.MARK, "update_refs visit_decref subtract_refs visit_reachable move_unreachable deduce_unreachable "
                           "clear_unreachable_mask"),
     *functions(What.AGES, "untrack_tuples untrack_dicts gc_collect_generations gc_collect_with_callback"),
