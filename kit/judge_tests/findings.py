@@ -7,11 +7,19 @@ import subprocess
 import time
 from unittest import mock
 
-from judge_tests.bench import KEPT, MOST_EVENTS, JudgeCase
+from judge_tests.bench import KEPT, MOST_EVENTS, PYTHON, JudgeCase
 from judge_tests.faults import C_FAULTS
 from judging.comparing import Kind
 from judging.reporting import ADDR_NO_RANDOMIZE, has_steady_addresses
 from judging.scripts import read_case
+
+# Makes the thirteenth object that is asked for, also if it is too large.
+COUNTS = """import sys
+for count, line in enumerate(sys.stdin):
+    if count > 0:
+        is_too_large = int(line.split()[-1]) > 216000
+        print("refused 4 too large" if is_too_large and count != 13 else "ok")
+"""
 
 
 class Findings(JudgeCase):
@@ -141,6 +149,14 @@ a shape 0
         self.bench.write("full.script", "config 1 209 0 0\na new 0 0 60\nb new 0 1 61\nb shape 0\n")
         said = self.finds_nothing("--script", "full.script", "--", *self.bench.toy("semispace"))
         self.assertIn("events: 1,", said)
+
+    def test_a_count_stays_a_number_of_a_script(self) -> None:
+        """Of two objects that are too large none is made that no script may have."""
+        self.bench.write("counts.py", COUNTS)
+        self.bench.write("great.script", "config 1 209 0 0\n" + f"a new 0 0 {(1 << 32) - 1}\n" * 20)
+        done = self.judge("--script", "great.script", "--", *PYTHON, "counts.py")
+        self.assertEqual((done.returncode, done.stderr), (1, ""))
+        self.assertEqual(len(re.findall(r"(?m)^a new ", self.kept())), 13)
 
     def test_progress(self) -> None:
         scripts = ["--script", "plain1.script", "--script", "plain2.script"]

@@ -6,7 +6,7 @@ import unittest
 
 from judge_tests.bench import JudgeCase
 from judge_tests.faults import SOON
-from judging.comparing import Judgement, Kind, Reference
+from judging.comparing import Judgement, Kind
 from judging.cycles import Said, said_in
 from judging.modes import modes_of
 from judging.options import TURNS, Usage
@@ -53,7 +53,7 @@ class Modes(JudgeCase):
     def test_each_profile_comes_to_each_mode(self) -> None:
         for count in (2, 3, len(TURNS)):
             modes = modes_of(["p"], [str(number) for number in range(count)])
-            seeded = Seeded(range(0), [], None, Reference(["none"]))
+            seeded = Seeded(range(0), [], None)
             made = [seeded.source(seed, modes) for seed in range(1, 1 + count * len(TURNS))]
             self.assertEqual(len({(it.name.split()[-1], it.mode) for it in made}), len(made))
 

@@ -27,6 +27,8 @@ for count, script in enumerate(scripts):
         replies.append("ok")
     elif fault == "hang" and has_take:
         time.sleep(100)
+    elif fault == "slow":
+        time.sleep(0.25)
     elif fault == "stop" and has_take:
         sys.exit(3)
     elif fault == "lose" and has_take or fault == "lose all" and is_kept and " same " in script:
@@ -77,6 +79,10 @@ class Together(JudgeCase):
         done = self.judge(*words[:6], *words[2 * len(NAMES):])
         self.assertEqual(re.findall(r"(?m)^((?:not )?ok) ", done.stdout), ["ok", "ok", "not ok"])
         self.assertIn("\n    # yours: no reply within 3 s\n", done.stdout)
+
+    def test_scripts_that_are_slow_together(self) -> None:
+        """Each has its time, though four of them take longer than one may."""
+        self.finds_nothing(*self.words("slow", *SOON, "--protocol", "many"))
 
     def test_processes_get_several_scripts(self) -> None:
         for jobs in ("1", "3"):

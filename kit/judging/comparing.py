@@ -166,6 +166,11 @@ class Judge:
         """How long a script of so many events may take."""
         return self.seconds + self.event_seconds * events
 
+    def share_at_first(self, scripts: Sequence[Asked]) -> float:
+        """How much of its time a process gets at first that is asked several scripts: that of one with all events."""
+        counts = [len(asked.right) for asked in scripts]
+        return self.time_for(sum(counts)) / sum(map(self.time_for, counts))
+
     def ask(self, scripts: Sequence[Asked], share: float = WHOLE) -> tuple[Answer, Limits]:
         """What the author's program answers to scripts that one process gets, and within which limits."""
         counts = [len(asked.right) for asked in scripts]

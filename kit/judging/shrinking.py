@@ -20,8 +20,9 @@ MOST_EVENTS_OF_PAIRS = 32
 FEW_EVENTS = 12
 # How many words an object may take beside its fields, the likeliest first.
 HEADERS = (2, 1, 4, 3, 0)
-# Which number of a `new` it is.
+# Which number of a `new` it is, and how great it is at most.
 COUNT_OF_NUMBERS = 2
+MOST_NUMBERS = (1 << 32) - 1
 # So many events a script may have to be kept with what was found of it.
 MOST_EVENTS_KEPT = 1000
 # An event, and which of its numbers.
@@ -175,7 +176,10 @@ class Shrinker:
             return False
         room = sum(events[index].numbers[1:]) + header
         for other in nearest_news(events, index):
-            larger = self.with_number([(other, COUNT_OF_NUMBERS)], self.script.events[other].numbers[-1] + room)
+            count = self.script.events[other].numbers[-1] + room
+            if count > MOST_NUMBERS:
+                continue
+            larger = self.with_number([(other, COUNT_OF_NUMBERS)], count)
             if self.attempt(larger.with_events(larger.events[:index] + larger.events[index + 1:])):
                 return True
         return False

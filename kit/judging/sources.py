@@ -11,7 +11,7 @@ from judging.comparing import Asked, Judge, Reference, ReferenceFailure
 from judging.modes import Mode
 from judging.options import NONE, TURNS, Usage
 from judging.programs import Protocol
-from judging.scripts import Case, Mark, read_cases, read_file, read_plain
+from judging.scripts import Case, Mark, Script, read_cases, read_file, read_plain
 
 DEFAULT_SEEDS = range(1, 21)
 # So large a heap is never full, or nearly never; where it is, a script ends.
@@ -52,18 +52,18 @@ class Seeded:
     seeds: range
     words: Sequence[str]
     profile: str | None
-    reference: Reference
+
+    def profile_of(self, seed: int) -> str:
+        return self.profile or TURNS[(seed - 1) % len(TURNS)]
+
+    def script(self, seed: int, reference: Reference) -> Script:
+        return reference.generated(["--seed", str(seed), "--profile", self.profile_of(seed), *self.words])
 
     def source(self, seed: int, modes: Sequence[Mode]) -> Source:
         """The script of a seed. Modes take turns, and so that each comes to each profile."""
-        turn, place = divmod(seed - 1, len(TURNS))
-        profile = self.profile or TURNS[place]
-        words = ["--seed", str(seed), "--profile", profile, *self.words]
-
-        def prepare(judge: Judge) -> Prepared:
-            return prepared(Case(self.reference.generated(words)), judge)
-
-        return Source(f"seed {seed} of profile {profile}", modes[(turn + place) % len(modes)], prepare)
+        mode = modes[sum(divmod(seed - 1, len(TURNS))) % len(modes)]
+        return Source(f"seed {seed} of profile {self.profile_of(seed)}", mode,
+                      lambda judge: prepared(Case(self.script(seed, judge.reference)), judge))
 
 
 @dataclass(frozen=True)
@@ -98,20 +98,19 @@ class Sources:
                 yield from it.sources(mode, prepares)
         yield from (self.seeded.source(seed, self.modes) for seed in self.seeded.seeds)
 
-    def require(self, protocol: Protocol) -> None:
+    def require(self, judge: Judge) -> None:
         """What can't be asked for is known before any script is judged."""
         if not len(self):
             raise Usage("there is no script to judge by")
         several = [it.name for it in self.given if len(it.cases) > 1]
-        if several and protocol is not Protocol.MANY:
+        if several and judge.protocol is not Protocol.MANY:
             raise Usage(f"{several[0]} has several scripts, which one process gets: ask it by --protocol "
                         f"{Protocol.MANY.value}")
-        reference = self.seeded.reference
         try:
             if self.seeded.seeds:
-                reference.generated(["--seed", "1", "--events", "1"])
+                judge.reference.generated(["--seed", "1", "--events", "1"])
         except ReferenceFailure:
-            raise Usage(f"{' '.join(reference.words)} makes no scripts from seeds, as `metroheap generate` does: "
+            raise Usage(f"{' '.join(judge.reference.words)} makes no scripts from seeds, as `metroheap generate` does: "
                         f"ask for none by --seeds {NONE}") from None
 
 
@@ -135,8 +134,7 @@ def conformance_cases(folder: pathlib.Path) -> list[tuple[str, Case]]:
     return [(it.name, case) for it in conformance_files(folder) for case in it.cases]
 
 
-def sources_of(options: argparse.Namespace, reference: Reference, conformance: pathlib.Path,
-               modes: Sequence[Mode]) -> Sources:
+def sources_of(options: argparse.Namespace, conformance: pathlib.Path, modes: Sequence[Mode]) -> Sources:
     """All scripts that are asked for. Files are read at once, so that a bad one is known before any is judged."""
     try:
         given = [Given(name, read_file(pathlib.Path(name), read_plain)) for name in options.script]
@@ -148,4 +146,4 @@ def sources_of(options: argparse.Namespace, reference: Reference, conformance: p
     if seeds is None:
         seeds = range(0) if options.script else DEFAULT_SEEDS
     words = ["--events", str(options.events), *([] if options.exact else ["--pages", str(MOST_PAGES)])]
-    return Sources([*given, *stated], Seeded(seeds, words, options.profile, reference), modes)
+    return Sources([*given, *stated], Seeded(seeds, words, options.profile), modes)

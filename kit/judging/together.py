@@ -110,7 +110,8 @@ def examine_batch(judge: Judge, scripts: Sequence[Asked]) -> Iterator[Judgement]
     if len(scripts) == 1:
         yield judge.examine(scripts[0])
         return
-    together = ask_together(judge, scripts)
+    at_first = judge.share_at_first(scripts)
+    together = ask_together(judge, scripts, at_first)
     if together.is_whole:
         yield from each_confirmed(judge, together)
         return
@@ -118,14 +119,14 @@ def examine_batch(judge: Judge, scripts: Sequence[Asked]) -> Iterator[Judgement]
     if alone and alone.finding:
         yield from (*together.judged[:together.place], alone)
     elif together.is_hung:
-        yield from examine_longer(judge, together)
+        yield from examine_longer(judge, together, max(WHOLE, LONGER * at_first))
     else:
         yield from each_alone(judge, together, together.suspect.finding)
 
 
-def examine_longer(judge: Judge, hung: Together) -> Iterator[Judgement]:
+def examine_longer(judge: Judge, hung: Together, share: float) -> Iterator[Judgement]:
     """Judgements by another process, which gets longer than one that seemed to hang. It may only be slow."""
-    together = ask_together(judge, hung.scripts, LONGER)
+    together = ask_together(judge, hung.scripts, share)
     if together.is_whole:
         yield from each_confirmed(judge, together)
     else:
