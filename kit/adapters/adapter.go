@@ -1,12 +1,14 @@
 // Answers scripts by the collector of Go.
 //
-//	go build -o go adapter.go heap.go object.go    (Debian: golang-go)
+//	go build -o go adapter.go heap.go holders.go object.go    (Debian: golang-go)
 //	GOGC=1 GODEBUG=clobberfree=1 go [always] [LITTER]
 //
-// GODEBUG has what stresses: clobberfree=1 poisons what is freed, gccheckmark=1 looks once more through what was
-// marked, gcstoptheworld=1 or 2 has no command within a cycle. After each command LITTER bytes are allocated and
-// dropped (0), so that the collector comes by itself. With "always" a goroutine asks for one collection after the
-// other, and each command waits a little, so that cycles have many.
+// GODEBUG has what stresses: clobberfree=1 poisons what is freed, gccheckmark=1 looks whether all roots were scanned,
+// gcstoptheworld=1 has no command within a cycle. With GOMAXPROCS=2 no processor does nothing but mark.
+//
+// After each command LITTER bytes are allocated and dropped (0), so that the collector comes by itself. With "always" a
+// goroutine asks for one collection after the other, and each command waits a little, so that cycles have many. Some
+// wait in a loop that calls nothing: it is stopped anywhere, and then each word of its frame may be a pointer.
 //
 // A list that is long to mark makes the slots black before what they name. Without it no missing barrier was found:
 // each of a few objects was marked before the next command came.
@@ -20,6 +22,7 @@ import (
 	"fmt"
 	"os"
 	"runtime"
+	"runtime/debug"
 	"strconv"
 	"strings"
 	"sync/atomic"
@@ -28,6 +31,12 @@ import (
 
 const (
 	pause = 20 * time.Microsecond
+	// A loop of so many turns takes about as long.
+	turns    = 20_000
+	loopTurn = 4
+
+	// It is never reached, but reckoned with.
+	largeMemory = 1 << 30
 	// So many objects take longer to mark than some dozens of commands do.
 	ballastLength = 100_000
 )
@@ -40,6 +49,8 @@ type run struct {
 }
 
 func newRun(ballast *object) *run {
+	debug.SetMemoryLimit(largeMemory)
+	debug.SetGCPercent(1)
 	return &run{heap: newHeap(ballast), cyclesBefore: cycles()}
 }
 
@@ -56,6 +67,8 @@ var (
 	isUnderWay atomic.Bool
 	finished   atomic.Uint64
 	dropped    []byte
+	steps      int
+	looped     int
 )
 
 func collectAlways() {
@@ -69,8 +82,10 @@ func collectAlways() {
 
 // quantum brings the cycle that is under way to its end. If there is none, a whole one runs.
 func quantum() {
-	if !isAlways {
+	if !isAlways && steps%2 == 0 {
 		runtime.GC()
+	} else if !isAlways {
+		debug.FreeOSMemory()
 	}
 	for before := finished.Load(); isAlways && finished.Load() == before; {
 		time.Sleep(pause)
@@ -81,8 +96,16 @@ func step() {
 	if litter > 0 {
 		dropped = make([]byte, litter)
 	}
-	if isAlways {
+	if steps++; steps%loopTurn == 0 {
+		loop()
+	} else if isAlways {
 		time.Sleep(pause)
+	}
+}
+
+func loop() {
+	for i := 0; i < turns; i++ {
+		looped ^= i
 	}
 }
 

@@ -13,11 +13,15 @@ import time
 import types
 import weakref
 from _queue import SimpleQueue
-from collections import OrderedDict, defaultdict, deque
-from collections.abc import Callable, Iterator
+from collections import OrderedDict, defaultdict, deque, namedtuple
 from functools import lru_cache, partial
 from types import CellType
-from typing import Any, NamedTuple
+
+# Of these only types are said, and importing them takes as long as all else.
+TYPE_CHECKING = False
+if TYPE_CHECKING:
+    from collections.abc import Callable, Iterator
+    from typing import Any
 
 
 class Cells:
@@ -34,10 +38,12 @@ class Cells:
 
 
 class Attributes:
-    """References in the attributes of an instance."""
+    """References in the attributes of an instance. If their number is odd they are in its dictionary, which is made
+    when it is asked for."""
 
     def __init__(self, count: int) -> None:
-        pass
+        if count % 2:
+            vars(self)
 
     def __getitem__(self, index: int) -> object:
         return getattr(self, f"field{index}", None)
@@ -121,23 +127,26 @@ class Watched:
 
 
 class Courier:
-    """Garbage that leads to itself. Its finalizer brings it back, and gives a keeper what it carries. It has to be called
-    once alone: afterwards the keeper changes what it has."""
+    """Garbage that leads to itself. Its finalizer brings it back, and gives a keeper what it carries. It has to be
+    called once alone: afterwards the keeper changes what it has. Objects of the script aren't garbage meanwhile, since
+    Python closes the generators and clears the weak references of what a finalizer brings back."""
 
     def __init__(self, keeper: Revived) -> None:
-        self.keeper, self.items, self.itself = keeper, keeper.items, self
-        keeper.items, keeper.sent, keeper.watch = None, keeper.sent + 1, weakref.ref(self, keeper.hear)
+        self.keeper, self.load, self.itself = keeper, {0: (keeper.items,)}, self
+        keeper.sent, keeper.watch = keeper.sent + 1, weakref.ref(self, keeper.hear)
+        keeper.items, keeper.meanwhile = None, tuple(keeper.items)
 
     def __del__(self) -> None:
-        self.keeper.items, self.keeper.courier = list(self.items), self
+        items, = self.load[0]
+        self.keeper.items, self.keeper.meanwhile, self.keeper.courier = list(items), None, self
 
 
 class Revived:
-    """References in a list that is garbage from an odd store on, until a finalizer brings it back. Of each such courier a
-    weak reference says once that it was garbage."""
+    """References in a list that is garbage from an odd store on, until a finalizer brings it back. Of each such courier
+    a weak reference says once that it was garbage."""
 
     def __init__(self, count: int) -> None:
-        self.items, self.courier, self.watch = [None] * count, None, None
+        self.items, self.meanwhile, self.courier, self.watch = [None] * count, None, None, None
         self.sent = self.heard = 0
 
     def hear(self, _: object) -> None:
@@ -160,11 +169,8 @@ class Revived:
             Courier(self)
 
 
-class Kind(NamedTuple):
-    """How a box for one reference is made, and how the reference is read. An iterator is used up by that."""
-    make: Callable[[Any], Any]
-    read: Callable[[Any], Any]
-    is_used_up: bool = False
+# How a box for one reference is made, and how the reference is read. An iterator is used up by that.
+Kind = namedtuple("Kind", ("make", "read", "is_used_up"), defaults=(False,))
 
 
 def itself(value: object) -> object:
@@ -267,6 +273,7 @@ ALL_BOXES = (
     Kind(lambda value: types.MappingProxyType({0: value}), lambda box: box[0]),
     Kind(lambda value: frozenset((value,)), lambda box: next(iter(box))),
     Kind(property, lambda box: box.fget),
+    Kind(partial(type(Kind.make), 0), lambda box: box.__doc__),
     Kind(staticmethod, lambda box: box.__func__),
     Kind(classmethod, lambda box: box.__func__),
     Kind(itertools.repeat, next),

@@ -30,16 +30,19 @@ var forms = map[string]string{
 	"clear": "s", "same": "ss", "shape": "o", "post": "bs", "take": "sb", "end": "",
 }
 
-// What scripts speak of, and behind the slots what takes long to mark. The slots of the board follow those of the
-// sessions.
+// What scripts speak of, and behind the slots what takes long to mark. The slots of the board lie outside the heap.
 type heap struct {
-	roots    [(sessions + 1) * slots]*object
+	roots    [sessions * slots]*object
 	ballast  *object
 	names    map[string]uint64
 	hasEnded [sessions + 1]bool
 }
 
+var board [slots]*object
+
 func newHeap(ballast *object) *heap {
+	forget(board[:])
+	forgetHolders()
 	return &heap{ballast: ballast, names: map[string]uint64{}}
 }
 
@@ -64,9 +67,7 @@ func findRoots(session uint64, form string, operands []uint64) bool {
 		if operands[i] >= slots {
 			return false
 		}
-		if letter == 'b' {
-			operands[i] += sessions * slots
-		} else {
+		if letter != 'b' {
 			operands[i] += session * slots
 		}
 	}
@@ -111,8 +112,13 @@ func (h *heap) makeAt(root, references, numbers uint64) string {
 
 func (h *heap) end(session uint64) {
 	h.hasEnded[session] = true
-	for slot := uint64(0); slot < slots; slot++ {
-		h.roots[session*slots+slot] = nil
+	forget(h.roots[session*slots:][:slots])
+}
+
+// forget is compiled to one call that clears all.
+func forget(places []*object) {
+	for i := range places {
+		places[i] = nil
 	}
 }
 
@@ -130,8 +136,12 @@ func (h *heap) perform(session uint64, word string, operands []uint64) string {
 		return fmt.Sprint("number ", roots[a].numbers[b])
 	case "write":
 		roots[a].numbers[b] = c
-	case "copy", "post", "take":
+	case "copy":
 		roots[a] = roots[b]
+	case "post":
+		copy(board[a:], roots[b:b+1])
+	case "take":
+		copy(roots[a:a+1], board[b:])
 	case "clear":
 		roots[a] = nil
 	case "same":

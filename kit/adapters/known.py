@@ -64,8 +64,8 @@ LIBGC = Adapter("libgc", "libgc-dev", header("gc.h"),
                     Mode("manual, few steps", "manual inner 3")))
 
 
-def ocaml(name: str, policy: int, words: str, program: str = "ocaml") -> Mode:
-    return Mode(name, f"OCAMLRUNPARAM=s=256,h=256,i=256,o=5,a={policy} {{built}}/{program} {words}")
+def ocaml(name: str, parameters: str, words: str, program: str = "ocaml") -> Mode:
+    return Mode(name, f"OCAMLRUNPARAM=s=256,o=5,{parameters} {{built}}/{program} {words}")
 
 
 OCAML_SOURCES = "{built}/ocaml_roots.o {built}/ocaml_items.ml {built}/ocaml_slots.ml {built}/adapter.ml"
@@ -77,12 +77,12 @@ OCAML = Adapter("ocaml", "ocaml-nox", "ocamlopt -version",
                  "ocamlopt -c -o {built}/ocaml_roots.o ocaml_roots.c",
                  f"ocamlopt -I {{built}} -o {{built}}/ocaml {OCAML_SOURCES}",
                  f"ocamlopt -runtime-variant d -I {{built}} -o {{built}}/ocaml_debug {OCAML_COMPILED}"), "env {{}}", (
-                     ocaml("natural", 2, "natural"),
-                     ocaml("slices", 2, "slices 10"),
-                     ocaml("long slices, first fit", 1, "slices 50 3"),
-                     ocaml("minor, next fit", 0, "minor 3"),
-                     ocaml("compacting", 2, "compacting"),
-                     ocaml("debugging runtime", 2, "slices 20", "ocaml_debug")))
+                     ocaml("natural", "h=256,i=256,O=100,a=2", "natural"),
+                     ocaml("slices", "h=400k,i=256,a=2", "slices 10"),
+                     ocaml("long slices, first fit", "h=256,i=256,a=1", "slices 50 3"),
+                     ocaml("minor, next fit", "h=256,i=2k,a=0", "minor 3"),
+                     ocaml("compacting", "h=400k,i=2k,a=2", "compacting"),
+                     ocaml("debugging runtime", "h=256,i=256,a=2", "slices 20", "ocaml_debug")))
 
 
 JAVA_COMMAND = ("java -Xmx96m -XX:+UnlockDiagnosticVMOptions -XX:+UnlockExperimentalVMOptions -XX:-UsePerfData "
@@ -113,12 +113,14 @@ JAVA = Adapter("java", "default-jdk-headless", "javac --release 17 -version", ("
                is_dear=True)
 
 GO = Adapter("go", "golang-go", "go version",
-             ("env GO111MODULE=off GOCACHE={built}/cache go build -o {built}/go adapter.go heap.go object.go",),
+             ("env GO111MODULE=off GOCACHE={built}/cache go build -o {built}/go "
+              "adapter.go heap.go holders.go object.go",),
              "env GOGC=1 {{}}", (
                  Mode("always", "GODEBUG=clobberfree=1 {built}/go always 20000"),
                  Mode("checked", "GODEBUG=clobberfree=1,gccheckmark=1 {built}/go always 20000"),
-                 Mode("litter", "GODEBUG=clobberfree=1 {built}/go 100000"),
-                 Mode("stopped", "GODEBUG=clobberfree=1,gcstoptheworld=1 {built}/go 100000")), is_dear=True)
+                 Mode("litter", "GOMAXPROCS=2 GODEBUG=clobberfree=1 {built}/go 100000"),
+                 Mode("stopped", "GOMAXPROCS=2 GODEBUG=clobberfree=1,gcstoptheworld=1 {built}/go 100000")),
+             is_dear=True)
 
 # What the adapter imports is compiled once.
 COMPILED = "{python} -S -X pycache_prefix={built}/compiled"
@@ -127,7 +129,7 @@ CPYTHON = Adapter("cpython", "python3", "true",
                   f"env PYTHONMALLOC=debug {COMPILED} {{here}}/cpython.py", (
                       Mode("young", "0"),
                       Mode("all", "2 3"),
-                      Mode("automatic", "automatic")))
+                      Mode("automatic", "automatic")), is_dear=True)
 
 THREADS = Adapter("threads", "default-jdk-headless", "javac --release 17 -version", ("javac -d {built} Threads.java",),
                   JAVA_COMMAND + " -cp {built} {{}}", (
@@ -150,7 +152,7 @@ RUBY = Adapter("ruby", "ruby3.1-dev", "pkg-config --exists ruby-3.1",
                    Mode("moving", "moving"),
                    Mode("stressed", "stressed 200", is_slow=True)), is_dear=True)
 
-RACKET = Adapter("racket", "racket liblz4-dev zlib1g-dev", header("chezscheme.h", "/usr/include/racket -include stddef.h"),
+RACKET = Adapter("racket", "racket liblz4-dev zlib1g-dev libncurses-dev", header("chezscheme.h", "/usr/include/racket -include stddef.h"),
                  ("cc -O2 -I/usr/include/racket -o {built}/racket racket.c front.c -lracketcs -lz -llz4 -lm -ldl -lpthread "
                   "-lrt -lncurses -ltinfo",),
                  f"env {POISONED} {{built}}/racket {{here}}/racket_holders.ss {{{{}}}}", (

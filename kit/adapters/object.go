@@ -8,12 +8,14 @@ import (
 // A slice of so many references is copied at times, and no larger one.
 const mostCopied = 256
 
-// An object of a script. Two references lie at its end, and the others in a slice. They are stored in four ways, by
-// their number: each has write barriers of its own.
+// An object of a script. Two references lie at its end, and the others in a slice, but for one that may have a holder.
+// They are stored in several ways, by their number: each has write barriers of its own.
 type object struct {
 	references uint64
 	numbers    []uint64
 	rest       []*object
+	holder     holder
+	guard      *guard
 	ends       [2]*object
 }
 
@@ -21,6 +23,8 @@ func made(references, numbers uint64) *object {
 	made := &object{references: references, numbers: make([]uint64, numbers)}
 	if references > 2 {
 		made.rest = make([]*object, references-2)
+		made.holder = newHolder()
+		made.guard = newGuard()
 	}
 	return made
 }
@@ -28,6 +32,9 @@ func made(references, numbers uint64) *object {
 func (o *object) load(reference uint64) *object {
 	if reference < 2 {
 		return o.ends[reference]
+	}
+	if reference == 2 && o.holder != nil {
+		return o.holder.load()
 	}
 	return o.rest[reference-2]
 }
@@ -38,11 +45,15 @@ func (o *object) store(reference uint64, value *object) {
 		return
 	}
 	at := reference - 2
-	switch {
+	switch place := (*unsafe.Pointer)(unsafe.Pointer(&o.rest[at])); {
+	case at == 0 && o.holder != nil:
+		o.holder.store(value)
 	case at%4 == 1:
 		copy(o.rest[at:], []*object{value})
-	case at%4 == 2:
-		atomic.SwapPointer((*unsafe.Pointer)(unsafe.Pointer(&o.rest[at])), unsafe.Pointer(value))
+	case at%8 == 2:
+		atomic.SwapPointer(place, unsafe.Pointer(value))
+	case at%8 == 6:
+		atomic.CompareAndSwapPointer(place, unsafe.Pointer(o.rest[at]), unsafe.Pointer(value))
 	case at%4 == 3 && len(o.rest) <= mostCopied:
 		o.rest = append([]*object(nil), o.rest...)
 		o.rest[at] = value

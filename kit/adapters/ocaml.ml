@@ -4,8 +4,9 @@
        .. -runtime-variant d -o ocaml_debug ..       (its runtime poisons what it frees, and looks at itself)
        OCAMLRUNPARAM=s=256,h=256,i=256,o=5,a=POLICY ocaml [natural | slices WORDS | minor | compacting] [EVERY]
 
-   With these parameters heaps are small, and the allocator has one of its three policies, 0 to 2. After each EVERY
-   commands (1) the collector works:
+   With these parameters heaps are small, and the allocator has one of its three policies, 0 to 2. In some modes of
+   known.py the heap begins large, grows by more, or is compacted more often. After each EVERY commands (1) the
+   collector works:
      natural     when it likes: litter fills the young heap, so that this is soon
      slices      by a slice of the old heap, of so many words
      minor       by a collection of the young heap; after each command no old object would lead to a young one, so EVERY

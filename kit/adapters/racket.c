@@ -16,7 +16,7 @@
 **   automatic     when 64 KiB were asked for, as a program has it
 ** `* quantum` is a collection of all.
 **
-** Objects keep their fields in 32 ways, by their birth, roots are of eight kinds, and numbers are objects of nine:
+** Objects keep their fields in 37 ways, by their birth, roots are of eight kinds, and numbers are objects of thirteen:
 ** racket_holders.ss has them. It calls setters of the interface for C, which are here. `collections` counts cycles. A
 ** collection isn't divided into steps.
 */

@@ -9,25 +9,27 @@ import shutil
 import subprocess
 import sys
 import time
-from collections.abc import Iterator, Sequence
+from collections.abc import Sequence
 from dataclasses import dataclass, field
 from xml.etree import ElementTree
 
 from adapters.known import ALL, Adapter, Mode, command
 from faults.planted import Collector, Fault
 from faults.workshop import Failed
+from judging.waiting import DEAR_EVENT_SECONDS, DEAR_SECONDS, EVENT_SECONDS, PLANTED, SECONDS
 
-JUDGE = pathlib.Path(__file__).resolve().parent.parent / "judge"
-SHRINK_SECONDS = "30"
+KIT = pathlib.Path(__file__).resolve().parent.parent
+SHRINK_SECONDS = "15"
 # What the judge notes of a finding.
 UNSTEADY = "answer the same each time"
 BEHIND = "in one process, and not alone"
 # A program that damaged its memory may ask for all there is.
 MOST_BYTES = 4 << 30
-# Profiles, the seeds of each and how many events a script has. What a reference doesn't know isn't judged.
+# Profiles, the seeds of each and how many events a script has. Where a collection takes long, scripts are shorter.
 TURNS = ("churn", "lists", "trees", "wide", "large", "frag", "refusals", "mixed")
 IN_TURN = "in turn"
-SERIES = {IN_TURN: (20, 10000), "barriers": (20, 10000), "comb": (8, 80000), "fans": (4, 43000)}
+SERIES = {IN_TURN: (20, 10000), "barriers": (20, 10000), "fans": (4, 43000)}
+DEAR_SERIES = {IN_TURN: (20, 2000), "barriers": (20, 2000), "fans": (1, 43000)}
 # No collector of the adapters is full before that.
 PAGES = "4096"
 # The allocator of glibc writes a random word into what it keeps of a thread's freed blocks: runs would differ.
@@ -69,6 +71,21 @@ def steady_words() -> list[str]:
     return ["setarch", "-R"] if shutil.which("setarch") else []
 
 
+def compiled(folder: pathlib.Path) -> list[str]:
+    """Python by which the judge, and what it imports, is compiled once in a folder, and not at each run."""
+    python = [sys.executable, "-X", f"pycache_prefix={folder}/compiled"]
+    subprocess.run(["env", "-u", "PYTHONDONTWRITEBYTECODE", *python, "-c", "import judging.telling, judging.threads"],
+                   cwd=KIT, check=False)
+    return python
+
+
+def times_for(adapter: Adapter) -> list[str]:
+    """How long a program may take in which a fault may be."""
+    whole = (DEAR_SECONDS, DEAR_EVENT_SECONDS) if adapter.is_dear else (SECONDS, EVENT_SECONDS)
+    seconds, event_seconds = (f"{PLANTED * each:f}" for each in whole)
+    return ["--seconds", seconds, "--event-seconds", event_seconds]
+
+
 def limit_resources() -> None:
     resource.setrlimit(resource.RLIMIT_AS, (MOST_BYTES, MOST_BYTES))
     resource.setrlimit(resource.RLIMIT_CORE, (0, 0))
@@ -78,8 +95,23 @@ def events_in(report: str) -> int:
     return sum(not line.startswith(("#", "config ")) for line in report.splitlines() if line)
 
 
+def adapter_named(name: str) -> Adapter:
+    return next(each for each in ALL if each.name == name)
+
+
 def adapter_of(collector: Collector) -> Adapter:
-    return next(each for each in ALL if each.name == collector.name)
+    return adapter_named(collector.name)
+
+
+def in_turn(scripts: Sequence[Script], place: int, modes: int) -> list[Script]:
+    """The scripts that a mode is asked, of so many."""
+    return [script for script in scripts if script.place % modes == place]
+
+
+def failures(listing: str) -> list[str]:
+    """The scripts of a listing in which something was found."""
+    cases = ElementTree.parse(listing).iter("testcase")
+    return [case.attrib["name"].rsplit(", mode ", 1)[0] for case in cases if case.find("failure") is not None]
 
 
 class Bench:
@@ -87,20 +119,22 @@ class Bench:
 
     def __init__(self, folder: pathlib.Path, reference: Sequence[str], jobs: int) -> None:
         self.folder, self.reference = folder, reference
-        self.judge_words = [sys.executable, str(JUDGE), "--protocol", "many", "--jobs", str(jobs), "--reference",
-                            shlex.join(reference)]
+        self.judge_words = [*compiled(folder), str(KIT / "judge"), "--protocol", "many", "--jobs", str(jobs),
+                            "--reference", shlex.join(reference)]
         self.steady = steady_words()
-        self.series = {name: self.generate(name, *sizes) for name, sizes in SERIES.items() if self.knows(name)}
 
-    def knows(self, series: str) -> bool:
-        return series == IN_TURN or self.generated(series, 1, 1) is not None
+    def scripts_for(self, adapter: Adapter) -> list[Script]:
+        """All generated scripts that an adapter is asked in one mode or another."""
+        series = DEAR_SERIES if adapter.is_dear else SERIES
+        return [script for name, sizes in series.items() for script in self.generate(name, *sizes)]
 
-    def generated(self, profile: str, seed: int, events: int) -> bytes | None:
-        """A script, or nothing where the reference makes none of this profile."""
-        words = ["--profile", profile, "--seed", str(seed), "--events", str(events), "--pages", PAGES]
-        made = subprocess.run([*self.reference, "generate", *words], stdin=subprocess.DEVNULL, capture_output=True,
-                              check=False)
-        return made.stdout if made.returncode == 0 else None
+    def generated(self, profile: str, seed: int, events: int) -> bytes:
+        words = [*self.reference, "generate", "--profile", profile, "--seed", str(seed), "--events", str(events),
+                 "--pages", PAGES]
+        made = subprocess.run(words, stdin=subprocess.DEVNULL, capture_output=True, check=False)
+        if made.returncode != 0:
+            raise Failed(f"`{shlex.join(words)}` ended with status {made.returncode}: {made.stderr.decode()}")
+        return made.stdout
 
     def generate(self, series: str, seeds: int, events: int) -> list[Script]:
         """The scripts of a series, each made once. Modes take turns, and so that each comes to each profile."""
@@ -111,20 +145,17 @@ class Bench:
             profile = TURNS[place] if series == IN_TURN else series
             path = self.folder / f"scripts/{profile}-{seed}-{events}.script"
             if not path.exists():
-                text = self.generated(profile, seed, events)
-                if text is None:
-                    raise Failed(f"{shlex.join(self.reference)} makes no script of profile {profile}")
-                path.write_bytes(text)
+                path.write_bytes(self.generated(profile, seed, events))
             scripts.append(Script(path, series, turn + place))
         return scripts
 
     def ask(self, collector: Collector, mode: Mode, words: Sequence[str]) -> subprocess.CompletedProcess[str]:
         """The judge's report of a mode. A finding is its status 1."""
-        built = self.folder / collector.name / "built"
-        program = command(adapter_of(collector).program, built)
-        judged = subprocess.run([*self.judge_words, *words, "--mode", mode.words.format(built=built), "--",
-                                 *self.steady, *program], stdin=subprocess.DEVNULL, capture_output=True, text=True,
-                                errors="replace", env=STEADY, preexec_fn=limit_resources, check=False)
+        built, adapter = self.folder / collector.name / "built", adapter_of(collector)
+        judge = [*self.judge_words, *times_for(adapter), *words, "--mode", mode.words.format(built=built)]
+        judged = subprocess.run([*judge, "--", *self.steady, *command(adapter.program, built)], text=True,
+                                stdin=subprocess.DEVNULL, capture_output=True, errors="replace", env=STEADY,
+                                preexec_fn=limit_resources, check=False)
         if judged.returncode not in (0, 1):
             raise Failed(f"{collector.name}, {mode.name}: {judged.stderr}")
         return judged
@@ -148,6 +179,7 @@ class Judging:
     def __init__(self, bench: Bench, collector: Collector, kept: str) -> None:
         self.bench, self.collector, self.kept, self.row = bench, collector, kept, Row()
         self.adapter = adapter_of(collector)
+        self.scripts = bench.scripts_for(self.adapter)
         # Findings that a script has alone, and others: how many events it has, its file, and the mode.
         self.alone: list[tuple[int, str, Mode]] = []
         self.behind: list[tuple[int, str, Mode]] = []
@@ -167,21 +199,16 @@ class Judging:
         if self.find(mode, ["--seeds", "none"], "file"):
             self.row.modes.append(mode.name)
 
-    def scripts(self, place: int) -> Iterator[tuple[str, list[Script]]]:
-        """The scripts of each series that a mode is asked."""
-        modes = len(self.adapter.modes)
-        for series, scripts in self.bench.series.items():
-            yield series, [script for script in scripts if script.place % modes == place]
-
     def judge_scripts(self, mode: Mode, place: int) -> None:
+        """Judges a mode by the scripts whose turn it is."""
         listing = f"{self.kept}-generated.xml"
-        for series, scripts in self.scripts(place):
-            words = [word for script in scripts for word in ("--script", str(script.path))]
-            found, asked = 0, len(scripts)
-            if scripts and self.find(mode, ["--conformance", "none", "--junit", listing, *words], series.split()[0]):
-                found = len(list(ElementTree.parse(listing).iter("failure")))
-            before = self.row.generated.get(series, (0, 0))
-            self.row.generated[series] = before[0] + found, before[1] + asked
+        asked = in_turn(self.scripts, place, len(self.adapter.modes))
+        words = [word for script in asked for word in ("--script", str(script.path))]
+        found = self.find(mode, ["--conformance", "none", "--junit", listing, *words], "generated")
+        failed = failures(listing) if found else []
+        for script in asked:
+            before = self.row.generated.get(script.series, (0, 0))
+            self.row.generated[script.series] = before[0] + failed.count(str(script.path)), before[1] + 1
 
     def shrink(self) -> None:
         """How many events the smallest finding has when it is shrunk."""

@@ -36,7 +36,9 @@ MARKING = Source("mark.c", (
     *functions(What.HELP, "GC_noop6 GC_noop1"),
     *functions(What.CYCLE, "GC_collection_in_progress GC_invalidate_mark_state"),
     *functions(What.MARK, "GC_clear_hdr_marks GC_set_hdr_marks clear_marks_for_block GC_set_mark_bit "
-                          "GC_clear_mark_bit GC_is_marked GC_clear_marks GC_mark_init GC_mark_and_push"),
+                          "GC_clear_mark_bit GC_is_marked GC_clear_marks GC_mark_init"),
+    function("GC_mark_and_push", What.MARK,
+             "A field of an object that the adapter marks itself would have to lead to where no block is.", most=2),
     *functions(What.ROOTS, "GC_mark_and_push_stack GC_push_all_eager GC_push_next_marked_uncollectable"),
     *functions(What.REMEMBERED, "GC_push_marked1 GC_push_marked2 GC_push_marked4 GC_block_was_dirty "
                                 "GC_push_next_marked_dirty"),

@@ -12,6 +12,7 @@ EDITED = " ".join(sorted({f"{{tree}}/{fault.file}" for fault in FAULTS}))
 LUA = Collector(
     "lua", "lua5.4",
     (f"mkdir -p {{built}}/objects && cd {{built}}/objects && {SEEDED} -c {{tree}}/src/l*.c && rm -f lua.o luac.o",),
-    (f"cd {{built}}/objects && {SEEDED} -c {EDITED}",
+    (f"cd {{built}}/objects && for file in {EDITED}; do "
+     f"[ $(basename $file .c).o -nt $file ] || {SEEDED} -c $file || exit 1; done",
      f"{SEEDED} -o {{built}}/lua {{here}}/lua.c {{here}}/lua_*.c {{here}}/front.c {{built}}/objects/*.o -lm"),
     FAULTS)

@@ -10,6 +10,7 @@ KNOWN_NAME = "The name has been that of a variable before, and is marked with th
 FIXED_NAME = "The name is fixed, and so is never white."
 GLOBALS = "The table of globals is marked from the registry, before a chunk that only the stack has."
 PARAMETERS = "It sets or reads a parameter, and the collector does nothing meanwhile."
+GROWS = "The heap has to grow by an eighth from one collection to the next, both of which freed little."
 DEEPEST = "It needs a stack of a million slots."
 LENGTH = "The length of a table is no concern of the collector, which goes by the size."
 
@@ -31,7 +32,8 @@ COLLECTOR = Source("src/lgc.c", (
     *functions(What.FINALIZER, "markbeingfnz udata2finalize dothecall GCTM runafewfinalizers callallpendingfinalizers "
                                "findlast separatetobefnz checkpointer correctpointers luaC_checkfinalizer"),
     *functions(What.AGES, "sweep2old sweepgen whitelist markold youngcollection atomic2gen entergen enterinc "
-                          "luaC_changemode fullgen stepgenfull genstep finishgencycle"),
+                          "luaC_changemode fullgen genstep finishgencycle"),
+    function("stepgenfull", What.CYCLE, GROWS, most=5),
     *functions(What.REMEMBERED, "correctgraylist correctgraylists"),
     *functions(What.CYCLE, "cleargraylists atomic luaC_runtilstate luaC_step fullinc luaC_fullgc incstep"),
     function("singlestep", What.CYCLE, Reason.UNREACHABLE, most=1),

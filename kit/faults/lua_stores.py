@@ -107,17 +107,16 @@ COMPILER = (
     barrier("chunk-barrier", "lparser.c", "  luaC_objbarrier(L, cl, cl->p);\n",
             "The code of a marked chunk is freed.", ""),
     barrier("source-barrier", "lparser.c", "  luaC_objbarrier(L, funcstate.f, funcstate.f->source);\n",
-            "The name of a chunk's source is freed.", "",
-            "no script had an emergency between the births of the function and of this"),
+            "The name of a chunk's source is freed.", ""),
     barrier("constant-barrier", "lcode.c", "  luaC_barrier(L, f, v);\n",
-            "A constant of a marked function is freed.", "",
-            "no script had an emergency between the births of the function and of this"),
+            "A constant of a marked function is freed.", ""),
     barrier("loaded-string-barrier", "lundump.c", "  luaC_objbarrier(L, p, ts);\n",
             "A string of a marked function that is loaded is freed.", ""),
     barrier("loaded-function-barrier", "lundump.c", "    luaC_objbarrier(S->L, f, f->p[i]);\n",
             "The code of a function within a marked one that is loaded is freed.", ""),
     barrier("loaded-chunk-barrier", "lundump.c", "  luaC_objbarrier(L, cl, cl->p);\n",
-            "The code of a marked chunk that is loaded is freed.", ""),
+            "The code of a marked chunk that is loaded is freed.", "",
+            "no script had an emergency between the births of the chunk and of its code"),
 )
 
 STRINGS = (

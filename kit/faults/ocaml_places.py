@@ -26,7 +26,7 @@ KEEPS_SIZE = "It needs free blocks of certain sizes side by side, which no scrip
 ADDRESSES = "It depends on where the system puts a new part of the heap."
 EMPTY = "The adapter makes no such array that is empty."
 ENDS = "It is for a program that frees all its memory as it ends."
-SECOND = "A second compaction needs a large part of the heap that is at its beginning and nearly empty."
+STAYS = "An empty part of the heap stays where the other parts are full, which no script brings about."
 RESIZED_OLD = "It is for a slice whose length the runtime is to choose, or in a heap with nothing in it."
 
 STORES = Source("runtime/memory.c", (
@@ -41,7 +41,7 @@ STORES = Source("runtime/memory.c", (
     function("caml_page_table_resize", What.HELP, Reason.REFUSED, most=2),
     function("caml_alloc_for_heap", What.GROWTH, HUGE, most=9),
     function("caml_free_for_heap", What.GROWTH, HUGE, most=1),
-    function("caml_add_to_heap", What.GROWTH, ADDRESSES, Reason.REFUSED, most=1),
+    function("caml_add_to_heap", What.GROWTH, ADDRESSES, Reason.REFUSED, most=3),
     function("expand_heap", What.GROWTH, NEVER_SO_LARGE, Reason.REFUSED, most=12),
     function("caml_allocation_color", What.BIRTH, C_ALONE),
     function("check_oom", What.HELP, Reason.REFUSED, most=3),
@@ -152,7 +152,7 @@ FREE_LISTS = Source("runtime/freelist.c", (
                            "bf_init bf_reset"),
     *functions(What.SWEEP, "nf_init_merge nf_merge_block ff_init_merge ff_merge_block bf_init_merge"),
     *functions(What.GROWTH, "caml_set_allocation_policy caml_fl_reset_and_switch_policy"),
-    function("nf_add_blocks", What.BIRTH, KEEPS_SIZE, most=4),
+    *functions(What.BIRTH, "nf_add_blocks"),
     function("nf_make_free_blocks", What.BIRTH, KEEPS_SIZE, most=1),
     function("ff_allocate", What.BIRTH, KEEPS_SIZE, most=24),
     function("ff_add_blocks", What.BIRTH, KEEPS_SIZE, most=2),
@@ -163,10 +163,11 @@ FREE_LISTS = Source("runtime/freelist.c", (
 ))
 
 COMPACTION = Source("runtime/compact.c", (
-    *functions(What.COMPACTION, "caml_invert_root init_compact_allocate compact_allocate do_compaction"),
+    *functions(What.COMPACTION, "caml_invert_root init_compact_allocate compact_allocate"),
+    function("do_compaction", What.COMPACTION, STAYS, most=1),
     function("invert_pointer_at", What.COMPACTION,
              "It is for what leads into a closure outside the heap, or to a free block, and nothing does.", most=2),
-    function("caml_compact_heap", What.COMPACTION, SECOND, HUGE, most=5),
+    function("caml_compact_heap", What.COMPACTION, HUGE, Reason.REFUSED, most=4),
     function("caml_compact_heap_maybe", What.COMPACTION, HUGE, ADDRESSES, most=2),
 ))
 
@@ -276,8 +277,8 @@ CONTROL = Source("runtime/gc_ctrl.c", (
     function("caml_gc_minor_words", What.HELP, REPORTS),
     function("caml_gc_counters", What.HELP, REPORTS),
     function("caml_gc_huge_fallback_count", What.HELP, REPORTS),
-    function("caml_gc_set", What.HELP, SETTING, Reason.MISUSE, most=9),
-    function("caml_gc_major_slice", What.CYCLE, SETTING, Reason.MISUSE, most=2),
+    function("caml_gc_set", What.HELP, SETTING, Reason.MISUSE, most=14),
+    *functions(What.CYCLE, "caml_gc_major_slice"),
     function("caml_get_minor_free", What.HELP, REPORTS),
     function("caml_get_major_bucket", What.HELP, REPORTS),
     function("caml_get_major_credit", What.HELP, REPORTS),
@@ -290,4 +291,4 @@ CONTROL = Source("runtime/gc_ctrl.c", (
 
 OCAML_PLACES = Plan("ocaml", (STORES, ARRAYS, YOUNG_HEAP, OLD_HEAP, ROOTS, ROOTS_OF_C, FREE_LISTS, COMPACTION,
                               WEAK, CLEANING, FINALIZERS, OBJECTS, CUSTOM_BLOCKS, ALLOCATION, LISTS_OF_ROOTS,
-                              CONTROL))
+                              CONTROL), left_out="*.nd.gcda")

@@ -41,6 +41,13 @@ class Reason(enum.Enum):
     UNREACHABLE = "No program can bring it about."
     MISUSE = "It reports a mistake of the program that uses the library."
     SIZE = "It needs more memory than a script may have."
+    TIMING = "Whether it runs is a matter of luck, as threads take turns."
+
+
+class Way(enum.Enum):
+    """How the lines of a collector are counted."""
+    GCOV = enum.auto()
+    GO = enum.auto()
 
 
 # A reason that one place alone has is a sentence.
@@ -73,9 +80,12 @@ class Source:
 @dataclass(frozen=True)
 class Plan:
     """What is counted of a collector."""
-    # That of the collector in which faults are planted.
+    # That of its adapter, and of the collector in which faults are planted, if there is one.
     name: str
     sources: tuple[Source, ...]
+    # Files of counts, as a pattern, that aren't read: those of what is compiled once more to check itself.
+    left_out: str = "none"
+    way: Way = Way.GCOV
 
 
 def function(name: str, what: What, *unrun: Why, most: Optional[int] = None) -> Place:

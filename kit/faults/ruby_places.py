@@ -56,7 +56,7 @@ COLLECTOR = Source("gc.c", (
     function("gc_sweep_plane", What.SWEEP, Reason.UNREACHABLE, most=1),
     function("gc_sweep_finish", What.SWEEP, PROFILE, most=1),
     function("gc_sweep_step", What.SWEEP, Reason.SIZE, most=4),
-    function("heap_page_freelist_append", What.SWEEP, Reason.UNREACHABLE, most=4),
+    function("heap_page_freelist_append", What.SWEEP, Reason.UNREACHABLE, most=9),
     *functions(What.FINALIZER, "run_final finalize_list finalize_deferred gc_finalize_deferred"),
     function("run_finalizer", What.FINALIZER, Reason.UNREACHABLE, most=2),
     function("gc_finalize_deferred_register", What.FINALIZER, Reason.REFUSED, most=1),
