@@ -138,7 +138,7 @@ class Courier:
 
     def __del__(self) -> None:
         items, = self.load[0]
-        self.keeper.items, self.keeper.meanwhile, self.keeper.courier = list(items), None, self
+        self.keeper.items, self.keeper.meanwhile, self.keeper.courier = items, None, self
 
 
 class Revived:

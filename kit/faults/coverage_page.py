@@ -15,7 +15,8 @@ from faults.workshop import Failed
 HEADER = (
     "Written by `kit/coverage`. Each collector was built with counters for its lines, and its adapter answered "
     "scripts in all modes. The tables say how often each place of the collector was run meanwhile. Generated scripts "
-    "have 10,000 events, and 2,000 where a collection takes long (Ruby, Racket CS, Go). Those of `fans` have 43,000.",
+    "have 10,000 events, and 2,000 where a collection takes long (CPython, Ruby, Racket CS, Go). Those of `fans` have "
+    "43,000.",
     "A place is a function, or a few lines of one that have a row of their own: these begin at the line with the "
     "text that is shown, or so many lines behind it. A function's lines are those without a row of their own. `runs` "
     "counts calls of a function, or runs of the first line. A line of a row of its own counts as never run if a part "

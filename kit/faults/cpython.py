@@ -13,8 +13,7 @@ FAULTS = (
           "gc_reset_refs(gc, Py_REFCNT(FROM_GC(gc)) - 1);",
           "Each object has one reference less, so what the stack alone leads to is garbage."),
     Fault("counted-twice", Kind.MARKING, GC, "            gc_decref(gc);\n", "            gc_decref(gc); gc_decref(gc);\n",
-          "A reference from an object that is looked through counts twice.",
-          "an object that another leads to is found again from there, whatever its count"),
+          "A reference from an object that is looked through counts twice."),
     Fault("found-again", Kind.MARKING, GC, FOUND + "        /* This had", FOUND +
           "        return 0;\n    }\n    if (0) {\n        /* This had",
           "An object that is found after it was taken for garbage stays garbage."),
@@ -24,8 +23,7 @@ FAULTS = (
           "    handle_weakrefs(young, old);\n    m += handle_weakrefs(&unreachable, old);\n",
           "A full collection clears the weak references to what lives."),
     Fault("weak-in-garbage", Kind.WEAK, GC, "            if (gc_is_collecting(AS_GC(wr))) {\n", "            if (0) {\n",
-          "The callback of a weak reference is called though both are garbage.",
-          "what such a callback does changes no answer"),
+          "The callback of a weak reference is called though both are garbage."),
     Fault("never-finalized", Kind.FINALIZER, GC, "    finalize_garbage(tstate, &unreachable);\n", "    ;\n",
           "Garbage is cleared before its finalizers were called."),
     Fault("finalized-twice", Kind.FINALIZER, GC, "        if (!_PyGCHead_FINALIZED(gc) &&\n                (finalize = ",
@@ -35,7 +33,8 @@ FAULTS = (
           "    gc_list_init(still_unreachable);\n    gc_list_merge(resurrected, still_unreachable);\n",
           "What a finalizer brought back is cleared all the same."),
     Fault("revived-forgotten", Kind.FINALIZER, GC, "    gc_list_merge(resurrected, old_generation);\n", "",
-          "What a finalizer brought back is in a list that is gone."),
+          "What a finalizer brought back is in a list that is gone.",
+          "the place of that list on the stack is written as an object leaves it, and nothing is there by then"),
     Fault("cleared-on-and-on", Kind.SWEEP, GC,
           "            /* object is still alive, move it, it may die later */\n            gc_clear_collecting(gc);\n"
           "            gc_list_move(gc, old);\n", "            gc_clear_collecting(gc);\n",
@@ -46,5 +45,5 @@ CPYTHON = Collector(
     "cpython", "python3.11",
     ("./configure --without-pydebug --without-ensurepip --disable-test-modules CFLAGS='-O1 {flags}' LDFLAGS='{flags}'",
      "make -j2 python sharedmods", "ln -sf {tree}/python {built}/python"),
-    ("make python",),
+    ("make -o Programs/_freeze_module -o _bootstrap_python python",),
     FAULTS)

@@ -14,8 +14,8 @@ from faults.planted import Collector, Fault
 
 HEADER = ("Written by `kit/plant-faults`. Each fault is one edit, in `kit/faults`. Generated scripts take turns at the "
           "modes of the adapter: 20 of eight profiles and 20 of `barriers` with 10,000 events each, and 4 of `fans` "
-          "with 43,000. Where a collection takes long (Ruby, Racket CS) they have 2,000, and there is one of `fans`. "
-          "The smallest finding is shrunk. Seconds are those of all judging, on a busy machine.")
+          "with 43,000. Where a collection takes long (CPython, Ruby, Racket CS) they have 2,000, and there is one of "
+          "`fans`. The smallest finding is shrunk. Seconds are those of all judging, on a busy machine.")
 HEAD = ("| fault | kind | conformance files, in modes | generated | shrunk to | seconds |", "|---|---|---|---|---|---|")
 
 
