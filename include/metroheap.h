@@ -7,10 +7,19 @@
 ** numbers. Both ways drive one machine and may be mixed. docs/MANUAL.md says
 ** what each event does and what its reply means.
 **
-** A text that doesn't fit its buffer is METROHEAP_SHORT, and `*written` says
-** how long it is. The event WAS DONE. Don't ask the line again, which would do
-** it once more: metroheap_last_text and metroheap_again give its text as often
-** as wanted.
+** Most programs need six calls:
+**
+**     metroheap_open        makes a machine, or metroheap_open_world a world
+**     metroheap_ask         does the event of a line, and gives the reply
+**     metroheap_step        does an event that is given as numbers
+**     metroheap_judge       does an event, and judges another collector's reply
+**     metroheap_again       gives the text of the last reply once more
+**     metroheap_close       frees the machine
+**
+** If a text doesn't fit its buffer the status is METROHEAP_SHORT, and
+** `*written` is its length. The event WAS DONE. Don't ask the line again, since
+** that would do the event a second time: metroheap_last_text and
+** metroheap_again give the text as often as you like.
 **
 ** Link with libmetroheap.a, which scripts/build-library makes. It needs
 ** malloc, realloc, free, memcpy, memmove and memset of the C library, and
@@ -19,27 +28,28 @@
 **
 ** WHAT A CALLER OWES
 **
-** All else is answered by a status; these can't be:
+** Every other mistake of a caller is answered by a status; these can't be:
 **
-**   *  No pointer is null, but where a function says so. Each points to as
+**   *  No pointer is null, unless a function allows it. Each points to as
 **      much memory as its type or its length says.
-**   *  The arguments of one call don't overlap, but where a function says so.
+**   *  The arguments of one call don't overlap, unless a function allows it.
 **   *  A handle is METROHEAP_INIT, or as a function of this header left it.
-**      Nobody else writes it. While it is open it isn't copied: two copies
-**      are one machine, which would be freed twice. Moving it is fine, if
-**      the old place isn't used again.
-**   *  A handle is in one call at a time. Another thread may go on with it
+**      Nothing else writes to it. An open handle isn't copied: two copies
+**      would be one machine, which would be freed twice. A handle may be
+**      moved, if the old place isn't used again.
+**   *  A handle is used by one call at a time. Another thread may go on with it
 **      if a lock, the start or the end of a thread, or a sequentially
 **      consistent atomic comes between. Different handles share nothing.
-**   *  malloc and realloc align blocks as C says. No function is called from
-**      a signal handler, or from a forked child of a process with threads.
+**   *  malloc and realloc align blocks as the C standard says. No function is
+**      called from a signal handler, or from a forked child of a process with
+**      threads.
 **
 ** WHO OWNS WHAT
 **
 ** The handle owns its machine or world. metroheap_close frees it, and so do
 ** metroheap_open and metroheap_open_world if they open another one in its
-** place. Every buffer, struct and line is the caller's; no function keeps a
-** pointer to one.
+** place. Every buffer, struct and line belongs to the caller; no function keeps
+** a pointer to one.
 */
 #ifndef METROHEAP_H
 #define METROHEAP_H
@@ -49,8 +59,8 @@
 #include <string.h>
 
 /* The version of this header, which is that of `metroheap --version`. */
-#define METROHEAP_VERSION "1.1.0"
-#define METROHEAP_VERSION_NUMBER 1001000
+#define METROHEAP_VERSION "2.0.0"
+#define METROHEAP_VERSION_NUMBER 2000000
 
 #ifdef __cplusplus
 extern "C" {
@@ -75,9 +85,9 @@ typedef struct metroheap {
 #define METROHEAP_INIT {0}
 
 /*
-** What a call came to. If the status is not METROHEAP_DONE, METROHEAP_SHORT,
-** METROHEAP_NO_TEXT or METROHEAP_DIFFERS, the machine is as it was before the
-** call, the last reply too.
+** How a call ended. Unless the status is METROHEAP_DONE, METROHEAP_SHORT,
+** METROHEAP_NO_TEXT or METROHEAP_DIFFERS, the machine and its last reply are as
+** they were before the call.
 */
 enum metroheap_status {
     METROHEAP_DONE = 0,       /* it was done */
@@ -119,12 +129,12 @@ static inline const char *metroheap_status_text(int32_t status) {
 /* Opening and closing ---------------------------------------------------- */
 
 /*
-** Opens a machine with these numbers: those of a script's line
-** `config PAGES QUANTUM TRIGGER EVERY`, and the rules, 1 or 2. Scripts are
-** run under rules 2, which allow larger objects.
+** Opens a machine with the four numbers of a script's line
+** `config PAGES QUANTUM TRIGGER EVERY`, and with version 1 or 2 of the rules.
+** Scripts are run under rules 2, which allow larger objects.
 **
-** The handle may be open. Then its machine is freed, but only after the new
-** one was made.
+** The handle may be open already. Then its machine is freed after the new one
+** was made.
 **
 ** METROHEAP_DONE        the handle has the new machine, which has done nothing
 ** METROHEAP_BAD_CONFIG  a number is outside the limits; the handle is as it was
@@ -134,18 +144,18 @@ int32_t metroheap_open(metroheap *heap, uint32_t pages, uint32_t quantum,
                        uint32_t trigger, uint32_t every, uint32_t rules);
 
 /*
-** Opens a world: the heap that never collects, never moves and is never full,
-** under rules 1 or 2. It has sessions and their objects, and neither pages nor
-** collector nor trace. What it answers to a session is what every collector
-** is to answer, but for a new object for which a heap has no room. So replies
-** can be compared, or judged by metroheap_judge, without a configuration.
+** Opens a world: a heap that never collects, never moves objects and is never
+** full, under rules 1 or 2. It has sessions and their objects, and neither pages
+** nor a collector nor a trace. Its replies to sessions are those of every
+** correct collector, except that it never answers `heap full`. So replies can be
+** compared, or judged by metroheap_judge, without a configuration.
 **
 ** It does the commands of sessions, as text or as numbers, 2^42 at most. A
-** control is METROHEAP_IS_WORLD, and so are the calls that ask for a collector
-** or a trace; it has no deeds. It keeps every object, so memory may be refused
-** for a new one.
+** control has the status METROHEAP_IS_WORLD, and so have the calls that ask for
+** a collector or a trace; a world has no deeds. It keeps every object, so memory
+** may be refused for a new one.
 **
-** The handle may be open, as that of metroheap_open.
+** The handle may be open already, as for metroheap_open.
 **
 ** METROHEAP_DONE        the handle has the new world, which has done nothing
 ** METROHEAP_BAD_CONFIG  the rules are not 1 or 2; the handle is as it was
@@ -154,8 +164,8 @@ int32_t metroheap_open(metroheap *heap, uint32_t pages, uint32_t quantum,
 int32_t metroheap_open_world(metroheap *heap, uint32_t rules);
 
 /*
-** Frees the machine of a handle, and leaves the handle closed. A closed one
-** stays so, and a null pointer is no handle: then nothing is done.
+** Frees the machine of a handle, and leaves the handle closed. A closed handle
+** stays closed. If the pointer is null, nothing is done.
 */
 void metroheap_close_nonnull(metroheap *heap);
 static inline void metroheap_close(metroheap *heap) {
@@ -173,11 +183,11 @@ static inline void metroheap_close(metroheap *heap) {
 ** null if their length is 0. metroheap_reason says why a line is
 ** METROHEAP_WRONG.
 **
-** This call and the next two are shorthands of those with the longer names,
-** which are the library's, and take no null pointer.
+** This call and the next two are shorthands for the functions with the longer
+** names, which the library has and which take no null pointer.
 **
-** Sessions are numbered as their names are first seen in done events, from 0.
-** An event by numbers says the number itself, and sees no name.
+** Sessions are numbered from 0 in the order in which events that were done first
+** named them. An event given as numbers has the number itself, and no name.
 **
 ** METROHEAP_DONE       the event was done; the text is in `out`
 ** METROHEAP_SHORT      the event was done; `*written` bytes are needed, `out`
@@ -248,10 +258,10 @@ static inline int32_t metroheap_reason(const char *line, size_t line_length,
 }
 
 /*
-** The text of the last reply, as C has texts: with a zero after it, for which
-** `size` has to have room, in `out`, which may be null if `size` is 0. The
-** text needs `*needed` bytes without the zero; `needed` may be null. If no
-** text is given and `size` is not 0, `out` is the empty text.
+** Gives the text of the last reply as a C string, with a zero at its end, for
+** which `size` has to have room. `out` may be null if `size` is 0. `*needed` is
+** the length of the text without the zero; `needed` may be null. If no text is
+** given and `size` is not 0, `out` is the empty string.
 **
 ** The statuses are those of metroheap_last_text.
 */
@@ -316,10 +326,10 @@ enum metroheap_event_kind {
 };
 
 /*
-** An event, of 24 bytes without padding. What its kind doesn't have isn't
-** read. A session of 8 or more is answered
+** An event, of 24 bytes without padding. Numbers that its kind doesn't have
+** aren't read. A session of 8 or more is answered
 ** METROHEAP_REFUSED_TOO_MANY_SESSIONS. The third number of `new`, `get` and
-** `put` is below 2^32: else the numbers are no event.
+** `put` must be below 2^32; otherwise the numbers are no event.
 */
 typedef struct metroheap_event {
     uint32_t kind;
@@ -371,8 +381,8 @@ enum metroheap_stat_number {
     METROHEAP_STAT_CYCLE = 4
 };
 
-/* Places of the numbers of a `report`. Without a least or a floor, both of
-** its numbers are 0; else the first of them is 1. */
+/* Places of the numbers of a `report`. If there is no least or no floor, both
+** of its numbers are 0; otherwise the first of them is 1. */
 enum metroheap_report_number {
     METROHEAP_REPORT_MUTATOR = 0,
     METROHEAP_REPORT_COLLECTOR = 1,
@@ -405,20 +415,19 @@ int32_t metroheap_step(metroheap *heap, const metroheap_event *event,
 
 /*
 ** Does an event, as metroheap_step does, and judges the reply that another
-** collector gave to it: an entry of a history, one after another. That is right
-** if it is what the machine answers, in its kind and in all nine numbers: those
-** that a kind of reply doesn't have are 0. Of a dump the items are not compared.
-** `given` and `right` are two structs.
+** collector gave to it. The reply is right if it is the machine's, in its kind
+** and in all nine numbers; numbers that a kind of reply doesn't have are 0. The
+** items of a dump are not compared. `given` and `right` are two structs.
 **
-** A world takes also a full heap as right, where it makes the new object that
-** was asked for. Then it doesn't make it, and all is as if the command had
-** never been asked: the last reply stays, and nothing is counted. So it is with
-** a control, to which a world has nothing to say: any struct is right as its
-** reply, also one that is the reply of nothing.
+** A world also takes `heap full` as right if it would make the new object that
+** was asked for. Then it doesn't make the object, and all is as if the command
+** had never been asked: the last reply stays, and nothing is counted. The same
+** goes for a control, which a world can't answer: any struct is right as its
+** reply, even one that is no reply at all.
 **
 ** METROHEAP_DONE       `*given` is right; `*right` is the same
-** METROHEAP_DIFFERS    it isn't, and `*right` is what is. The event was done as
-**                      is right, so the caller may go on
+** METROHEAP_DIFFERS    `*given` is wrong, and `*right` is the right reply. The
+**                      event was done, so the caller may go on
 ** METROHEAP_WRONG, METROHEAP_FULL, METROHEAP_NO_MEMORY,
 ** METROHEAP_CLOSED     nothing was done; `*right` is as it was
 */
@@ -466,8 +475,8 @@ typedef struct metroheap_item {
 } metroheap_item;
 
 /*
-** Puts an item of the last reply in `*item`. Items are counted from 0; a
-** reply that isn't a dump has none. So after a dump a loop may ask until
+** Puts an item of the last reply in `*item`. Items are counted from 0, and a
+** reply that isn't a dump has no items. So after a dump a loop may ask until
 ** METROHEAP_NO_ITEM.
 **
 ** METROHEAP_DONE
@@ -479,9 +488,9 @@ int32_t metroheap_dump_item(metroheap *heap, size_t index,
 /* Deeds ------------------------------------------------------------------ */
 
 /*
-** Whether events keep their deeds, from the next one on: they don't if `tells`
-** is 0. A handle that was opened keeps none. To keep them takes time and memory
-** for each.
+** Chooses whether events keep their deeds, from the next one on: they do unless
+** `tells` is 0. A handle that was just opened keeps none. Each deed that is kept
+** takes time and memory.
 **
 ** METROHEAP_DONE, METROHEAP_CLOSED, METROHEAP_IS_WORLD
 */
@@ -558,19 +567,18 @@ int32_t metroheap_see_report(metroheap *heap, uint64_t window,
 /* Memory ----------------------------------------------------------------- */
 
 /*
-** All that grows with the events of a machine is its trace, of which reports
-** are made: 32 bytes an event at most, and as it grows up to twice as much is
-** asked for. Reports of up to 512 windows take 32 KB more. A machine that is to
-** go on for long, or that may not ask for memory while it runs, has room made
-** for so many events at its start, and forgets its trace before so many more
-** were done.
+** Only the trace of a machine grows with its events: it takes at most 32 bytes
+** an event, and up to twice that while it is reallocated. Reports of up to 512
+** windows take 32 KB more. A machine that runs for a long time, or that must not
+** ask for memory while it runs, makes room for a number of events at its start,
+** and forgets its trace before that many more were done.
 **
 ** Makes room for the next `events` events. Then memory is refused for none of
-** them, unless it is a dump; and so for none of as many after each time that
+** them, unless it is a dump, and for none of as many events after each time that
 ** the trace is forgotten. This is proved, whatever metroheap_tell asks for in
-** between; that none is even asked for is tested. Texts of replies, and deeds
-** that are kept, ask for memory of their own: without it the event is done all
-** the same, and there is no text, or there are no deeds.
+** between; that no memory is even asked for is tested. Texts of replies, and
+** deeds that are kept, ask for memory of their own: if it is refused the event
+** is done all the same, without a text or without deeds.
 **
 ** METROHEAP_DONE
 ** METROHEAP_NO_MEMORY, METROHEAP_CLOSED,
@@ -579,22 +587,22 @@ int32_t metroheap_see_report(metroheap *heap, uint64_t window,
 int32_t metroheap_reserve(metroheap *heap, size_t events);
 
 /*
-** Forgets the trace. Reports count from here then: their units, their quanta
-** and their windows; so does `at` of metroheap_last_units from the next event
-** on. Each report keeps what the configuration promises, as those of the whole
-** trace do: a floor under the mutator's share of each window, and no quantum
-** longer than is configured. All else goes on as if nothing had been forgotten:
-** each reply that isn't a report's, the heap, and how many events were done. No
-** memory is freed; what the trace had is room for events to come.
+** Forgets the trace. From then on reports count from here: their units, their
+** quanta and their windows. So does `at` of metroheap_last_units from the next
+** event on. Reports still keep what the configuration promises: a floor under the
+** mutator's share of each window, and no quantum longer than configured.
+** Everything else goes on as if nothing had been forgotten: all other replies,
+** the heap, and the number of events that were done. No memory is freed; the
+** memory of the trace is room for events to come.
 **
 ** METROHEAP_DONE
 ** METROHEAP_CLOSED, METROHEAP_IS_WORLD   nothing was done
 */
 int32_t metroheap_forget(metroheap *heap);
 
-/* Shorthands, which no library has to be linked for ---------------------- */
+/* Shorthands, which need no library -------------------------------------- */
 
-/* A command of a session, of the kinds 1 to 12. */
+/* Makes a command of a session, of the kinds 1 to 12. */
 static inline metroheap_event metroheap_command(uint32_t kind, uint32_t session,
                                                 uint32_t first, uint32_t second,
                                                 uint64_t third) {
@@ -607,7 +615,7 @@ static inline metroheap_event metroheap_command(uint32_t kind, uint32_t session,
     return event;
 }
 
-/* A control, of the kinds 13 to 18. The window is that of a report. */
+/* Makes a control, of the kinds 13 to 18. The window is that of a report. */
 static inline metroheap_event metroheap_control(uint32_t kind, uint64_t window) {
     return metroheap_command(kind, 0, 0, 0, window);
 }

@@ -64,7 +64,7 @@ PLACEMENT = Rule("Objects", "A part goes into the first of these that exists")
 FLAGS = Rule("Cycles and quanta", "A page is flagged if both hold")
 MOVES = Rule("Cycles and quanta", "A block of a flagged page moves")
 STEPS = Rule("Cycles and quanta", "A quantum takes steps while")
-QUANTA_LEFT = Rule("left", "Else it is B less the quanta")
+QUANTA_LEFT = Rule("left", "Otherwise it is B less the quanta")
 
 
 def rules_of(finding: Finding, event: Event | None, right: str, judge: Judge) -> list[Rule]:

@@ -1,4 +1,4 @@
-//! A Rattle program over the state: the script under "Collecting" in docs/GUIDE.md, asked event by event.
+//! A Rattle program over the state: the script under "Collecting" in docs/SCRIPTS.md, asked event by event.
 #![tactic(auto)]
 
 use anyhow::Context;

@@ -24,12 +24,12 @@ use mh_embed::reasons::reason;
 use mh_embed::status::Status;
 use std::alloc::Global;
 
-/// The number of the version, 1.1.0: 1,000,000 for each of its first number and 1,000 for each of the second.
+/// The number of the version, 2.0.0: 1,000,000 for each of its first number and 1,000 for each of the second.
 #[unsafe(no_mangle)]
 pub extern "C" fn metroheap_version() -> u32
-    ensures { result ≡ version_number 1 1 0 }
+    ensures { result ≡ version_number 2 0 0 }
 {
-    1_001_000
+    2_000_000
 }
 
 /// Opens a machine with these numbers, in place of the one that the handle may have.

@@ -13,10 +13,10 @@ use clap::{Arg, ArgAction, Command};
 use std::alloc::{AllocError, Global};
 
 const ABOUT: &str =
-    "An executable reference of the Metronome collector: runs scripts of mutator commands and collector quanta, writes random ones, and judges histories";
+    "An executable reference of the Metronome garbage collector: runs scripts of mutator commands and collector quanta, judges histories of collectors, and draws curves of logs of pauses";
 
 const MANUAL: &str =
-    "Scripts and histories are read from standard input. Their grammar, each command's cost and all exit statuses are in `man metroheap`, which is docs/MANUAL.md of its sources.";
+    "Examples:\n  metroheap check --help\n  metroheap generate --seed 1 --events 100 | metroheap run\n\nScripts, histories and logs are read from standard input. Help is written to standard error: `metroheap size --help 2>&1 | less` pages through it. The grammars, the cost of each command and all exit statuses are in `man metroheap` and the man pages that it names, which are made from docs/MANUAL.md.";
 
 pub(crate) fn first_subcommands() -> &'static [Subcommand]
     ensures { map subcommand_of_row result.now ≡ first_subcommands }
@@ -87,7 +87,7 @@ fn finished<'a>(command: Command<'a>) -> Command<'a>
     command
         .about(ABOUT)
         .after_help(MANUAL)
-        .version("1.1.0")
+        .version("2.0.0")
         .subcommand_required(true)
         .disable_help_subcommand(true)
 }

@@ -65,52 +65,68 @@ const FLAG: Kind = Kind::Flag;
 
 const VALUE: Kind = Kind::Text;
 
-const SCRIPT_STATUSES: &str =
-    "Exit status: 0 if all events were answered, 1 if the script was refused, 2 if the command line was, 3 if memory was refused, a device failed or the history was full";
+/// The end of help for what runs a script: an example, and the statuses.
+macro_rules! runs {
+    ($example:literal) => {
+        concat!(
+            "Examples:\n  ",
+            $example,
+            "\n\nExit status: 0 if all events were answered, 1 if the script was refused, 2 if the command line was, 3 if memory was refused, a device failed or the history was full",
+        )
+    };
+}
 
-const HISTORY_STATUSES: &str =
-    "Exit status: 0 if the history is legal, 1 if the text was refused, 2 if the command line was, 3 if memory was refused or a device failed, 4 if the history is not legal";
+/// The same for what judges a history or a log.
+macro_rules! judges {
+    ($example:literal) => {
+        concat!(
+            "Examples:\n  ",
+            $example,
+            "\n\nExit status: 0 if the history or the log is legal, 1 if the text was refused, 2 if the command line was, 3 if memory was refused or a device failed, 4 if the history or the log is not legal",
+        )
+    };
+}
 
 const WORKERS: OptionRow = (
     "workers",
     "W",
     Kind::Number(1, MOST_WORKERS),
-    "How many threads scan at a time at most, from 1 to 64; 1 if it is not given",
+    "Maximum number of threads that scan in parallel [1..64, default 1]",
 );
 
 const RULES: OptionRow = (
     "rules",
     "R",
     Kind::Number(1, 2),
-    "The rules of large objects and of units, 1 or 2; 2 if it is not given",
+    "Version of the rules of large objects and units [1..2, default 2]",
 );
 
 const PAGES: OptionRow = (
     "pages",
     "P",
     Kind::Text,
-    "How many pages the heap has, from 1 to 4096",
+    "Number of pages in the heap [1..4096]",
 );
 
 const QUANTUM: OptionRow = (
     "quantum",
     "K",
     Kind::Text,
-    "The most units that a quantum spends, from 209 to 1000000",
+    "Maximum number of units that a quantum spends [209..1000000]",
 );
 
 const TRIGGER: OptionRow = (
     "trigger",
     "T",
     Kind::Text,
-    "A quantum starts a cycle if no more pages than these are free, from 0 to P",
+    "Start a cycle when at most T pages are free [0..P]",
 );
 
 const EVERY: OptionRow = (
     "every",
     "E",
     Kind::Text,
-    "After how many units a quantum is run, from 0, for none, to 1000000",
+    "Run a quantum after E units of the mutator; 0: run none [0..1000000]",
 );
 
 /// The most units of a round's mutator, and the most of its quantum: together fewer than a trace has at most.
@@ -128,7 +144,7 @@ pub(crate) const FIRST_SUBCOMMANDS: &[Subcommand] = &[
         "run",
         "Run a script: print the reply to each of its events, or the line that refuses the script",
         "metroheap run [--workers <W>] [--rules <R>] [--history] < SCRIPT",
-        SCRIPT_STATUSES,
+        runs!("metroheap generate --seed 1 --events 100 | metroheap run"),
         &[
             WORKERS,
             RULES,
@@ -136,7 +152,7 @@ pub(crate) const FIRST_SUBCOMMANDS: &[Subcommand] = &[
                 "history",
                 "",
                 Kind::Flag,
-                "Print the history of the run, of version 2, in place of its replies",
+                "Print the history of the run, in version 2, in place of the replies",
             ),
         ],
         &[],
@@ -145,26 +161,26 @@ pub(crate) const FIRST_SUBCOMMANDS: &[Subcommand] = &[
         "steps",
         "Run a script and print each event with its reply, and below it what the collector, the barrier and the placing of new parts did",
         "metroheap steps [--from <N>] [--to <M>] [--json | --chrome] [--rules <R>] < SCRIPT",
-        SCRIPT_STATUSES,
+        runs!("metroheap generate --seed 1 --events 100 | metroheap steps --from 90"),
         &[
             (
                 "from",
                 "N",
                 Kind::Number(0, u32::MAX as u64),
-                "The first event whose deeds are printed, counted from 1; 1 if it is not given",
+                "First event whose deeds are printed, counted from 1 [0..4294967295, default 1]",
             ),
             (
                 "to",
                 "M",
                 Kind::Number(0, u32::MAX as u64),
-                "The last event whose deeds are printed; the last of all if it is not given",
+                "Last event whose deeds are printed [0..4294967295, default the last of all]",
             ),
-            ("json", "", Kind::Flag, "Print one object of JSON a line"),
+            ("json", "", Kind::Flag, "Print one JSON object a line"),
             (
                 "chrome",
                 "",
                 Kind::Flag,
-                "Print Chrome trace events, which trace viewers read; --from and --to bound all but cycles, quanta and counters",
+                "Print Chrome trace events for a trace viewer; --from and --to don't limit cycles, quanta and counters",
             ),
             RULES,
         ],
@@ -174,27 +190,27 @@ pub(crate) const FIRST_SUBCOMMANDS: &[Subcommand] = &[
         "cycles",
         "Run a script and print a line for each cycle of the collector: its cause, its events, its units by phase, and what it marked, freed and moved",
         "metroheap cycles [--rules <R>] < SCRIPT",
-        SCRIPT_STATUSES,
+        runs!("metroheap generate --seed 1 --events 10000 | metroheap cycles"),
         &[RULES],
         &[],
     ),
     (
         "show",
-        "Run a script and print a page in HTML that shows the run in a browser: the pages, their slots and the grey list before and after each step",
-        "metroheap show [--from <N>] [--to <M>] [--rules <R>] < SCRIPT > PAGE",
-        SCRIPT_STATUSES,
+        "Run a script and print an HTML file that shows the run in a browser: the pages, their slots and the grey list before and after each deed",
+        "metroheap show [--from <N>] [--to <M>] [--rules <R>] < SCRIPT > FILE",
+        runs!("metroheap generate --seed 1 --events 100 | metroheap show > run.html"),
         &[
             (
                 "from",
                 "N",
                 Kind::Number(0, u32::MAX as u64),
-                "The first event of the page, counted from 1; 1 if it is not given",
+                "First event that is shown, counted from 1 [0..4294967295, default 1]",
             ),
             (
                 "to",
                 "M",
                 Kind::Number(0, u32::MAX as u64),
-                "The last event of the page; the last of all if it is not given",
+                "Last event that is shown [0..4294967295, default the last of all]",
             ),
             RULES,
         ],
@@ -204,14 +220,14 @@ pub(crate) const FIRST_SUBCOMMANDS: &[Subcommand] = &[
         "live",
         "Answer each line of a script as it comes: the reply to its event, or the refusal of the line",
         "metroheap live [--workers <W>] [--world] < LINES",
-        "Exit status: 0 at the end of input, 2 if the command line was refused, 3 if a device failed or memory was refused for a line's text",
+        "Examples:\n  (echo config 4 209 0 0; echo a new 0 0 1; echo a shape 0) | metroheap live\n  (echo a new 0 0 1; echo a shape 0) | metroheap live --world\n\nExit status: 0 at the end of input, 2 if the command line was refused, 3 if a device failed or memory was refused for a line's text",
         &[
             WORKERS,
             (
                 "world",
                 "",
                 Kind::Flag,
-                "Answer by a heap that never collects and is never full, with no configuration before the first line",
+                "Answer for a heap that never collects and is never full; no configuration comes first",
             ),
         ],
         &[],
@@ -220,15 +236,17 @@ pub(crate) const FIRST_SUBCOMMANDS: &[Subcommand] = &[
         "race",
         "Run a script with each session in a thread of its own: print the history that they make, or the line that refuses the script",
         "metroheap race [--workers <W>] < SCRIPT",
-        SCRIPT_STATUSES,
+        runs!("metroheap generate --seed 1 --events 100 --profile race | metroheap race"),
         &[WORKERS],
         &[],
     ),
     (
         "check",
-        "Judge a history of version 1: print how many entries a legal one has, the first bad entry, or the line that refuses it",
+        "Judge a history of this collector (version 1), of any collector (--sessions) or a log of threads (--log): print how many entries a legal one has, the first bad entry, or the line that refuses it",
         "metroheap check --pages <P> --quantum <K> --trigger <T> --every <E> [--rules <R>] < HISTORY\n       metroheap check --sessions [--no-full] [--rules <R>] < HISTORY\n       metroheap check --log [--no-full] [--rules <R>] < LOG",
-        HISTORY_STATUSES,
+        judges!(
+            "(echo history 1; echo 's0 new 0 0 1 = ok') | metroheap check --pages 4 --quantum 209 --trigger 0 --every 0\n  (echo history 1; echo 's0 new 0 0 1 = ok') | metroheap check --sessions\n  (echo log 1; echo '1 2 s0 new 0 0 1 = ok'; echo order 1; echo s0) | metroheap check --log"
+        ),
         &[
             PAGES,
             QUANTUM,
@@ -238,19 +256,19 @@ pub(crate) const FIRST_SUBCOMMANDS: &[Subcommand] = &[
                 "rules",
                 "R",
                 Kind::Number(1, 2),
-                "The rules of large objects and of units, 1 or 2; if it is not given 1, with --sessions those that the history names, and with --log 2",
+                "Version of the rules of large objects and units [1..2, default 1; with --sessions that of the history, with --log 2]",
             ),
             (
                 "sessions",
                 "",
                 Kind::Flag,
-                "Judge only what sessions see, of any collector's history",
+                "Judge the history of any collector, in version 1 or 2, by what its sessions see",
             ),
             (
                 "no-full",
                 "",
                 Kind::Flag,
-                "With --sessions or --log: an entry that is `heap full` is bad",
+                "With --sessions or --log: an entry whose reply is `heap full` is bad",
             ),
             (
                 "log",
@@ -274,85 +292,92 @@ pub(crate) const FIRST_SUBCOMMANDS: &[Subcommand] = &[
     ),
     (
         "audit",
-        "Judge a history of version 2, with its units: print how many entries a legal one has, the first bad entry, or the line that refuses it",
+        "Judge a history of this collector (version 2) with its units: print how many entries a legal one has, the first bad entry, or the line that refuses it",
         "metroheap audit < HISTORY",
-        HISTORY_STATUSES,
+        judges!(
+            "metroheap generate --seed 1 --events 100 | metroheap run --history | metroheap audit"
+        ),
         &[],
         &[],
     ),
     (
         "migrate",
-        "Print a legal history of version 1 as one of version 2; of any other, print what check prints",
+        "Print a legal history of version 1 as one of version 2; for any other text, print what check prints",
         "metroheap migrate --pages <P> --quantum <K> --trigger <T> --every <E> < HISTORY",
-        HISTORY_STATUSES,
+        judges!(
+            "(echo history 1; echo 's0 new 0 0 1 = ok') | metroheap migrate --pages 4 --quantum 209 --trigger 0 --every 0"
+        ),
         &[PAGES, QUANTUM, TRIGGER, EVERY],
         &[],
     ),
+];
+
+pub(crate) const LAST_SUBCOMMANDS: &[Subcommand] = &[
     (
         "generate",
         "Print a random script. The same options print the same bytes",
         "metroheap generate --seed <N> --events <M> [--sessions <S>] [--pages <P>] [--quantum <K>] [--trigger <T>] [--every <E>] [--profile <NAME>] [--controls <C>] [--rules <R>]",
-        "Exit status: 0 if the script was written, 2 if the command line was refused, 3 if memory was refused or a device failed",
+        "Examples:\n  metroheap generate --seed 1 --events 100 --profile trees > trees.script\n\nExit status: 0 if the script was written, 2 if the command line was refused, 3 if memory was refused or a device failed",
         &[
             (
                 "seed",
                 "N",
                 Kind::Needed(0, u64::MAX),
-                "What the random numbers begin with, from 0 to 18446744073709551615",
+                "Seed of the random numbers [0..18446744073709551615]",
             ),
             (
                 "events",
                 "M",
                 Kind::Needed(1, MOST_ENTRIES),
-                "How many events the script has, from 1 to 1000000",
+                "Number of events in the script [1..1000000]",
             ),
             (
                 "sessions",
                 "S",
                 Kind::Number(1, SESSIONS as u64),
-                "How many sessions do the work, from 1 to 8; 4 if it is not given",
+                "Number of sessions that do the work [1..8, default 4]",
             ),
             (
                 "pages",
                 "P",
                 Kind::Number(1, MOST_PAGES as u64),
-                "How many pages the heap has, from 1 to 4096; 64 if it is not given",
+                "Number of pages in the heap [1..4096, default 64]",
             ),
             (
                 "quantum",
                 "K",
                 Kind::Number(LEAST_QUANTUM as u64, MOST_QUANTUM as u64),
-                "The most units that a quantum spends, from 209 to 1000000; 250 if it is not given",
+                "Maximum number of units that a quantum spends [209..1000000, default 250]",
             ),
             (
                 "trigger",
                 "T",
                 Kind::Number(0, MOST_PAGES as u64),
-                "A quantum starts a cycle if no more pages than these are free, from 0 to P; half of P if it is not given",
+                "Start a cycle when at most T pages are free [0..P, default half of P]",
             ),
             (
                 "every",
                 "E",
                 Kind::Number(0, MOST_EVERY as u64),
-                "After how many units a quantum is run, from 0, for none, to 1000000; 25 if it is not given",
+                "Run a quantum after E units of the mutator; 0: run none [0..1000000, default 25]",
             ),
             (
                 "profile",
                 "NAME",
                 Kind::Text,
-                "The mix of events: churn, lists, trees, wide, large, frag, refusals, barriers, comb, fans, race, cycles or mixed, which is the first seven in turn; mixed if it is not given",
+                "Mix of events; mixed is the first seven in turn [churn, lists, trees, wide, large, frag, refusals, barriers, comb, fans, race, cycles or mixed, default mixed]",
             ),
             (
                 "controls",
                 "C",
                 Kind::Number(0, MOST_ENTRIES),
-                "Each C-th event is a quantum and no other a control, from 0, for none, to 1000000; all kinds by chance if it is not given",
+                "Make every C-th event `* quantum`, with no other controls; 0: no controls [0..1000000, default random controls]",
             ),
             (
                 "rules",
                 "R",
                 Kind::Number(1, 2),
-                "The rules under which it is to run, 1 or 2; 2 if it is not given. Under 1 no event asks `* left`",
+                "Version of the rules that the script is for; under 1 no event is `* left` [1..2, default 2]",
             ),
         ],
         &[(
@@ -364,27 +389,24 @@ pub(crate) const FIRST_SUBCOMMANDS: &[Subcommand] = &[
             "",
         )],
     ),
-];
-
-pub(crate) const LAST_SUBCOMMANDS: &[Subcommand] = &[
     (
         "curve",
-        "Print the least share of the mutator in windows of each length, of a script's run, of a history of version 2 or of a log of pauses, or the line that refuses the text; and judge what is promised of all windows",
+        "Print the minimum mutator utilisation (MMU) in windows of each length, of the run of a script, of a history of version 2 or of a log of pauses, or the line that refuses the text; and judge what is promised of all windows",
         "metroheap curve [--svg] [--rules <R>] [PROMISES] < SCRIPT\n       metroheap curve --history [--svg] [PROMISES] < HISTORY\n       metroheap curve --pauses [--svg] [PROMISES] < LOG\n       PROMISES are --every <M> --quantum <K>, --longest <N> and --keeps <U:W>",
-        "Exit status: 0 if the curve was printed and each promise is kept, 1 if the text was refused, 2 if the command line was, 3 if memory was refused, a device failed or the history was full, 4 if a promise is broken",
+        "Examples:\n  metroheap generate --seed 1 --events 1000 | metroheap curve\n  metroheap generate --seed 1 --events 1000 | metroheap run --history | metroheap curve --history --svg > curve.svg\n  (echo mutator 8000; echo collector 2000; echo mutator 9000) | metroheap curve --pauses --longest 2500 --keeps 70:10000\n\nExit status: 0 if the curve was printed and each promise is kept, 1 if the text was refused, 2 if the command line was, 3 if memory was refused, a device failed or the history was full, 4 if a promise is broken",
         &[
             RULES,
             (
                 "history",
                 "",
                 Kind::Flag,
-                "Read a history of version 2, whose first line has the rules and the configuration; nothing is replayed",
+                "Read a history of version 2, of any collector; nothing is replayed",
             ),
             (
                 "pauses",
                 "",
                 Kind::Flag,
-                "Read a log of pauses: lines `mutator N` and `collector N`, so many units of any kind each",
+                "Read a log of pauses: lines `mutator N` and `collector N`, in nanoseconds or any other unit",
             ),
             (
                 "svg",
@@ -396,25 +418,25 @@ pub(crate) const LAST_SUBCOMMANDS: &[Subcommand] = &[
                 "every",
                 "M",
                 Kind::Number(1, MOST_OF_A_ROUND),
-                "Promised: a quantum comes after so many units of the mutator, from 1 to 2305843009213693951; with --quantum",
+                "Promised: the mutator has at least M units before each quantum; needs --quantum [1..2305843009213693951]",
             ),
             (
                 "quantum",
                 "K",
                 Kind::Number(1, MOST_OF_A_ROUND),
-                "Promised: it spends so many units at most, from 1 to 2305843009213693951; with --every",
+                "Promised: a quantum spends at most K units; needs --every [1..2305843009213693951]",
             ),
             (
                 "longest",
                 "N",
                 Kind::Number(0, u64::MAX),
-                "Promised: no pause is longer",
+                "Promised: no pause is longer than N units [0..18446744073709551615]",
             ),
             (
                 "keeps",
                 "U:W",
                 Kind::Text,
-                "Promised: each stretch of W units or more has U per cent of the mutator, from 0 to 100",
+                "Promised: the mutator has at least U per cent of each stretch of W units or more [U 0..100, W 0..18446744073709551615]",
             ),
         ],
         &[
@@ -433,58 +455,58 @@ pub(crate) const LAST_SUBCOMMANDS: &[Subcommand] = &[
     ),
     (
         "size",
-        "Run a script in heaps of other sizes, and print what is live, the fewest pages that were found to be enough, and what more pages change; or print how many pages have room for all programs that keep to some numbers; or print which quantum leaves the mutator a share of each window",
+        "Run a script in heaps of other sizes, and print what is live, the fewest pages that were found to be enough, and what more pages change; or print the pages that suffice for all programs that keep to some counts (--used); or print the quantum that leaves the mutator a share of each window (--target)",
         "metroheap size [--rules <R>] [--window <W>] < SCRIPT\n       metroheap size --used <U> --every <M> --rate <WORDS:PARTS/UNITS[+BURST],..> [--parts <N>] (--quanta <Q> | --quantum <K>)\n       metroheap size --target <U> --window <D> [--every <M> | --quantum <K>]",
-        "Exit status: 0 if a size was printed, 1 if the script was refused, 2 if the command line was, 3 if memory was refused, a device failed or the history was full, 4 if there is no such size",
+        "Examples:\n  metroheap generate --seed 1 --events 1000 --profile churn | metroheap size\n  metroheap size --used 75 --every 5000 --rate 8:20/1000 --quanta 2\n  metroheap size --target 50 --window 10000\n\nExit status: 0 if a size was printed, 1 if the script was refused, 2 if the command line was, 3 if memory was refused, a device failed or the history was full, 4 if there is no such size",
         &[
             RULES,
             (
                 "window",
                 "W",
                 Kind::Number(1, u64::MAX),
-                "How many units a window has, from 1 to 18446744073709551615: of a script the least share of the mutator in such windows is printed, of ten rounds if it is not given; with --target windows of this length and longer are to have the share",
+                "Length of a window in units. For a script, the least share of the mutator in such windows is printed; with --target, all windows of this length and longer have the share [1..18446744073709551615, default for a script: 10 * (QUANTUM + EVERY)]",
             ),
             (
                 "used",
                 "U",
                 Kind::Number(0, MOST_PAGES as u64),
-                "The most pages that are in use as a cycle ends, from 0 to 4096",
+                "Maximum number of pages in use when a cycle ends [0..4096]",
             ),
             (
                 "every",
                 "M",
                 Kind::Number(1, MOST_EVERY as u64),
-                "After how many units of the mutator a quantum is run, from 1 to 1000000",
+                "Run a quantum after M units of the mutator [1..1000000]",
             ),
             (
                 "rate",
                 "WORDS:PARTS/UNITS[+BURST],..",
                 Kind::Text,
-                "How fast blocks are made: words of a block with its 4 of header, from 4 to 64; how many such at most to how many units of the mutator, and how many more at once if any are, each from 1 to 1000000",
+                "Allocation rate of each class: in any t units of the mutator at most BURST + t * PARTS / UNITS blocks, rounded up, of WORDS words, 4 of header among them [WORDS 4..64, others 1..1000000, default BURST 0]",
             ),
             (
                 "parts",
                 "N",
                 Kind::Number(1, MOST_PARTS as u64),
-                "The most blocks of an object, from 1 to 3661; 1 if it is not given",
+                "Maximum number of blocks of an object [1..3661, default 1]",
             ),
             (
                 "quanta",
                 "Q",
                 Kind::Number(1, MOST_QUANTA as u64),
-                "The most quanta that a cycle takes, from 1 to 1000000",
+                "Maximum number of quanta of a cycle [1..1000000]",
             ),
             (
                 "quantum",
                 "K",
                 Kind::Number(LEAST_QUANTUM as u64, MOST_QUANTUM as u64),
-                "The most units that a quantum spends, from 209 to 1000000; it stands in place of --quanta if only the bound of any cycle is known",
+                "Maximum number of units that a quantum spends. With --used it replaces --quanta: then the bound of any cycle counts [209..1000000]",
             ),
             (
                 "target",
                 "U",
                 Kind::Number(1, 100),
-                "The share that the mutator is to have of each window, in per cent, from 1 to 100",
+                "Share that the mutator is to have of each window, in per cent [1..100]",
             ),
         ],
         &[

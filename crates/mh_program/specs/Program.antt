@@ -32,7 +32,7 @@ use Rattle.mh_model.specs.Live as live
 
 -- the line that names the version, the rules and the versions of histories, and what proved them
 abbrev pub version_text : Text
-version_text = line_text (codes "metroheap 1.1.0: rules 1 and 2, histories 1 and 2, proved by Rattle logic dac8208d650f15bf")
+version_text = line_text (codes "metroheap 2.0.0: rules 1 and 2, histories 1 and 2, proved by Rattle logic dac8208d650f15bf")
 
 -- an order was carried out: its run ended so, what is to be said of that was reported, and the status is the end's
 pub record Obeys {T : Type 0} (Ends : Result T ScriptFault → Type 0) (SaysDone : ErrorStream → ErrorStream → T → Type 0) (status_by : T → ℕ) (errors errors' : ErrorStream) (status : ℕ) : Type 0 where

@@ -48,7 +48,7 @@ pub struct DeedNumbers {
     pub numbers: [u64; 7],
 }
 
-pub const VERSION_NUMBER: u32 = 1_001_000;
+pub const VERSION_NUMBER: u32 = 2_000_000;
 
 pub const DONE: i32 = 0;
 pub const BLANK: i32 = 1;
