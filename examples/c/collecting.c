@@ -1,5 +1,5 @@
 /* A collection, asked by numbers: the script under "Collecting" in
-** docs/GUIDE.md. It prints what that page does. */
+** docs/SCRIPTS.md. It prints what that page does. */
 #include "names.h"
 
 #include <stdlib.h>

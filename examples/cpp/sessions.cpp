@@ -1,4 +1,4 @@
-// Two sessions and the board: the script under "Several sessions and the board" in docs/GUIDE.md. It prints its
+// Two sessions and the board: the script under "Several sessions and the board" in docs/SCRIPTS.md. It prints its
 // replies, and then tries all else that the wrapper has. At a fault it names the line, and exits 1.
 #include "metroheap.hpp"
 

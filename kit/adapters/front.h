@@ -1,7 +1,8 @@
 /* What an adapter in C has to have. front.c has the rest: it reads scripts, refuses what is to be refused, and answers.
 **
 ** A root is a slot: 16 of each of the eight sessions, and then the 16 of the board. The functions below get roots, and
-** fields that are there, of roots that name an object. So they refuse nothing.
+** fields that are there, of roots that name an object. So they refuse nothing. The numbers of `config` aren't handed on:
+** a heap has room for 4,096 pages of 256 words, or grows.
 */
 #ifndef FRONT_H
 #define FRONT_H
@@ -11,10 +12,13 @@
 
 enum { SESSIONS = 8, SLOTS = 16, ROOTS = (SESSIONS + 1) * SLOTS };
 
-/* What is read off the collector between commands. It isn't stepwise if no command falls within its cycles. */
+/* How far the collector is, which is asked for before each command. */
 struct progress {
+    /* How many cycles it has finished since heap_open. */
     uint64_t cycles;
+    /* Whether it works in steps, so that commands can come within a cycle. Only then are these counted. */
     bool is_stepwise;
+    /* Whether a cycle is under way now. */
     bool is_under_way;
     /* Whether it moves objects. */
     bool is_moving;
@@ -37,6 +41,7 @@ bool heap_make(int root, uint64_t references, uint64_t numbers);
 /* Says no if the root names nothing. */
 bool heap_shape(int root, uint64_t *references, uint64_t *numbers);
 void heap_get(int to, int from, uint64_t reference);
+/* If `from` names nothing, null is stored. */
 void heap_put(int to, uint64_t reference, int from);
 uint64_t heap_read(int root, uint64_t number);
 void heap_write(int root, uint64_t number, uint64_t value);
@@ -47,9 +52,8 @@ bool heap_same(int one, int other);
 void heap_start(void);
 /* Brings the cycle that is under way to its end. If there is none, a whole one runs. */
 void heap_quantum(void);
-/* What the mode asks for after each command. */
+/* Comes after each command: a collector that works in steps does a piece of its work here. */
 void heap_step(void);
-/* It is asked for before each command. */
 struct progress heap_progress(void);
 
 #endif

@@ -19,6 +19,7 @@ KIT = pathlib.Path(__file__).resolve().parent.parent
 TOP = KIT.parent
 JUDGE = KIT / "judge"
 TOYS = KIT / "toys"
+ADAPTERS = KIT / "adapters"
 KEPT = "judge-finding.script"
 # Without what an installation adds, which can take longer than a run.
 PYTHON = [sys.executable, "-S"]
@@ -117,10 +118,13 @@ class Bench:
     def toy(self, name: str, old: str = "", new: str = "") -> list[str]:
         """The words that run the toy in C, with a text of its source exchanged."""
         source = (TOYS / "semispace.c").read_text(encoding="utf-8")
-        path = self.write(f"{name}.c", source.replace(old, new) if old else source)
-        built = self.folder / name
-        subprocess.run([*shlex.split(os.environ.get("CC", "cc")), "-std=c99", "-o", built, path], check=True)
-        return [str(built)]
+        return self.built(name, self.write(f"{name}.c", source.replace(old, new) if old else source))
+
+    def built(self, name: str, *sources: pathlib.Path) -> list[str]:
+        """The words that run what is compiled of these sources in C."""
+        compiler = shlex.split(os.environ.get("CC", "cc"))
+        subprocess.run([*compiler, "-std=c99", f"-I{ADAPTERS}", "-o", self.folder / name, *sources], check=True)
+        return [str(self.folder / name)]
 
 
 class JudgeCase(unittest.TestCase):

@@ -4,7 +4,7 @@ from __future__ import annotations
 import shlex
 from collections.abc import Callable
 
-from judge_tests.bench import KIT, PYTHON, TOP, TOYS, JudgeCase
+from judge_tests.bench import ADAPTERS, KIT, PYTHON, TOP, TOYS, JudgeCase
 from judge_tests.faults import C_FAULTS, EXACT_FAULTS, PYTHON_FAULTS, SHELL_FAULTS, SOON, Fault
 from judging.comparing import Kind
 
@@ -60,6 +60,9 @@ class Toys(JudgeCase):
 
     def test_c_is_not_exact(self) -> None:
         self.finds(Kind.DIFFERENCE, *self.words("--exact"), *self.bench.toy("semispace"))
+
+    def test_c_over_the_front(self) -> None:
+        self.finds_nothing(*self.words(), *self.bench.built("never", TOYS / "never.c", ADAPTERS / "front.c"))
 
     def test_the_python_toy_is_short(self) -> None:
         self.assertLessEqual(len((TOYS / "semispace.py").read_text(encoding="utf-8").splitlines()), 150)

@@ -1,4 +1,4 @@
-"""Where the reference is, and what can stand in its place where there is none."""
+"""Where the reference program is, and what can stand in its place where there is none."""
 from __future__ import annotations
 
 import pathlib
@@ -16,9 +16,11 @@ def default_program() -> str:
 
 
 def other_references(asked: str = "--reference {} --seeds none") -> str:
-    """How a reference is had where there is none. `asked` are the words by which another one is asked for."""
+    """How a reference program is had where there is none. `asked` are the words by which another one is asked for."""
     if not COLLECTOR.exists():
         return f"scripts/install installs it, and {asked.split()[0]} names one that is elsewhere"
+    if not PLAIN.exists():
+        return f"scripts/install installs it; {asked.format(COLLECTOR)} does without it, in Python"
     collector, plain = (path.relative_to(TOP) for path in (COLLECTOR, PLAIN))
     return (f"`rt run -- run < stdin` in crates/metroheap builds it; {asked.format(collector)} does without it, in "
             f"Python; so does {asked.format('./plain')}, faster, after `rustc --edition 2024 -O -o plain {plain}` "

@@ -1,4 +1,4 @@
-//! Scripts of docs/GUIDE.md and docs/MANUAL.md, with the replies that they have there.
+//! Scripts of docs/SCRIPTS.md and docs/MANUAL.md, with the replies that they have there.
 use metroheap::{
     Act, Config, Error, Event, Heap, Item, Judge, Part, Phase, Place, Refusal, Reply, Report, Stat,
     Tier, Units, Verdict, World,
