@@ -64,8 +64,6 @@ FAULTS = (
           "Variables of the kernel aren't led to where objects moved."),
     Fault("guardians-old", Kind.WEAK, GC, "          partition_guardians(S_G.guardians[g], ALWAYSTRUE);\n", "",
           "Guardians forget their objects in the second collection."),
-    Fault("guarded-moved", Kind.WEAK, GC, "          INITGUARDIANOBJ(ls) = GET_FWDADDRESS(obj);            \\\n",
-          "          \\\n", "A guardian isn't led to where its object moved."),
     Fault("guarded-representative", Kind.WEAK, GC,
           "                  WITH_TOP_BACKREFERENCE(tconc, relocate_pure_now(&rep));\n\n                  old_end",
           "                  old_end", "What a guardian gives back isn't led to where it moved."),
